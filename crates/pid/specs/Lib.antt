@@ -1,0 +1,2 @@
+pub mod J1979
+pub mod Lengths
