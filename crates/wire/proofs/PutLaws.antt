@@ -5,8 +5,8 @@ use mathlib.Core.List.{List, [], _∷_, _++_}
 use native.Mathlib.Nat.{add-zero, add-suc, suc-add}
 use native.Mathlib.Numerals.{add-one}
 use native.Mathlib.Omega.{arith}
-use lib.ListN.{length, take, drop, getD, set, length-set, length-append, drop-of-length-le}
-use lib.Seq.{sets, length-sets, drop-cons, set-out}
+use lib.ListN.{length, take, drop, getD, set, length-append, length-take, drop-of-length-le}
+use lib.Seq.{sets, length-sets, drop-cons, set-out, take-at}
 use lib.Dec.{leb}
 use borrow.Author.Tests.{leb-true, leb-false}
 use Rattle.wire.specs.Put.{Put}
@@ -85,3 +85,18 @@ put-step {out} {o₁} {left} {at} {a} {r} t i h p q =
 
 pub put-end : {out left : List ℕ} {at r : ℕ} (t : List ℕ) (i : ℕ) → length t ≤ i → Put out at (drop i t) r left → (r ≡ at) × (left ≡ out)
 put-end t i h p = put-nil (rw (drop-of-length-le t h) at p)
+
+-- what stands at the front of a buffer that was written from its start: the text as far as it fits, and what the buffer held
+sets-suc : (x : ℕ) (l : List ℕ) (i : ℕ) (t : List ℕ) → sets (x ∷ l) (suc i) t ≡ x ∷ sets l i t
+sets-suc x l i [] = refl
+sets-suc x l i (y ∷ t) = sets-suc x (set l i y) (suc i) t
+
+sets-front : (l t : List ℕ) → sets l 0 t ≡ take (length l) t ++ drop (length t) l
+sets-front [] [] = refl
+sets-front (x ∷ l) [] = refl
+sets-front [] (y ∷ t) = sets-out [] 1 t (omega arith)
+sets-front (x ∷ l) (y ∷ t) = sets-suc y l 0 t ∙ rw (sets-front l t)
+
+pub put-front : {out left t : List ℕ} {r : ℕ} → Put out 0 t r left → take r left ≡ take (length out) t
+put-front {out} {left} {t} {r} p =
+    ap (take r) (p .bytes ∙ sets-front out t) ∙ take-at (take (length out) t) (drop (length t) out) r (omega (arith, p .next, length-take (length out) t))
