@@ -1,0 +1,73 @@
+-- Document 01, server_session.rs: "An AT command updates the client settings it is lent, then is answered with the line ending now in force: text, ending,
+-- ending, `>`; ATZ puts two endings first. Texts are those of `handle_at_command`. The text of ATI or AT@1 is one of the two lent identity strings".
+use mathlib.Core.Bool.{Bool, true, false, cond, _||_}
+use mathlib.Core.List.{List, [], _∷_}
+use Prim.Native.Nat.{ℕ}
+use Prim.Native.String.{String}
+use Rattle.wire.specs.Text.{ascii, same, begins}
+use Rattle.client_state.specs.Settings.{Settings, fresh}
+use Rattle.at_command.specs.declared.AtKind.{AtKind}
+use Rattle.at_command.specs.declared.AtKind.the-variants.{Reset, Echo, Linefeeds, Spaces, Headers, Voltage, Protocol, ProtocolNumber, Accepted, Ati, Device, Unknown}
+
+abbrev isText : List ℕ → String → Bool
+isText c t = same c (ascii t)
+
+abbrev startsWith : List ℕ → String → Bool
+startsWith c t = begins c (ascii t)
+
+-- the dialect: ATSP, ATST and ATAT match by their start, the others whole
+unfoldable pub atKind : List ℕ → AtKind
+atKind c =
+    cond (isText c "ATZ") Reset
+    (cond (isText c "ATE0") (Echo false)
+    (cond (isText c "ATE1") (Echo true)
+    (cond (isText c "ATL0") (Linefeeds false)
+    (cond (isText c "ATL1") (Linefeeds true)
+    (cond (isText c "ATS0") (Spaces false)
+    (cond (isText c "ATS1") (Spaces true)
+    (cond (isText c "ATH0") (Headers false)
+    (cond (isText c "ATH1") (Headers true)
+    (cond (isText c "ATRV") Voltage
+    (cond (isText c "ATDP") Protocol
+    (cond (isText c "ATDPN") ProtocolNumber
+    (cond (startsWith c "ATSP" || (startsWith c "ATST" || startsWith c "ATAT")) Accepted
+    (cond (isText c "ATI") Ati
+    (cond (isText c "AT@1") Device Unknown))))))))))))))
+
+-- the settings after it: ATZ makes all fresh, the last command with them
+abbrev pub kindSettings : AtKind → Settings → Settings
+kindSettings Reset s = fresh
+kindSettings (Echo on) s = record { echo = on; linefeeds = s .linefeeds; spaces = s .spaces; headers = s .headers; last = s .last }
+kindSettings (Linefeeds on) s = record { echo = s .echo; linefeeds = on; spaces = s .spaces; headers = s .headers; last = s .last }
+kindSettings (Spaces on) s = record { echo = s .echo; linefeeds = s .linefeeds; spaces = on; headers = s .headers; last = s .last }
+kindSettings (Headers on) s = record { echo = s .echo; linefeeds = s .linefeeds; spaces = s .spaces; headers = on; last = s .last }
+kindSettings Voltage s = s
+kindSettings Protocol s = s
+kindSettings ProtocolNumber s = s
+kindSettings Accepted s = s
+kindSettings Ati s = s
+kindSettings Device s = s
+kindSettings Unknown s = s
+
+abbrev says : String → List (List ℕ)
+says t = ascii t ∷ []
+
+-- the lines of its answer, by the two lent identity strings: at a reset two empty ones come first
+abbrev pub kindLines : List ℕ → List ℕ → AtKind → List (List ℕ)
+kindLines ati device Reset = [] ∷ [] ∷ ati ∷ []
+kindLines ati device (Echo on) = says "OK"
+kindLines ati device (Linefeeds on) = says "OK"
+kindLines ati device (Spaces on) = says "OK"
+kindLines ati device (Headers on) = says "OK"
+kindLines ati device Voltage = says "12.6V"
+kindLines ati device Protocol = says "AUTO, ISO 15765-4 (CAN 11/500)"
+kindLines ati device ProtocolNumber = says "A6"
+kindLines ati device Accepted = says "OK"
+kindLines ati device Ati = ati ∷ []
+kindLines ati device Device = device ∷ []
+kindLines ati device Unknown = says "?"
+
+-- "one of the two lent identity strings, handed back without copying": the string itself, whatever it is
+abbrev pub identityOf : {A : Type 0} → Bool → A → A → A
+identityOf true ati device = device
+identityOf false ati device = ati
