@@ -2,9 +2,14 @@
 -- (Group number is document 01's term.)
 use mathlib.Core.Bool.{cond}
 use mathlib.Core.List.{List, [], _∷_}
-use Prim.Native.Nat.{ℕ, zero, suc, _+_, _-_, _*_, _/_, _%_}
+use Prim.Native.Nat.{ℕ, zero, suc, _+_, _-_, _*_, _/_, _%_, _<_}
 use lib.Dec.{eqb, ltb, leb}
 use lib.ListN.{length, take, drop}
+
+-- all members are bytes
+abbrev pub Bytes : List ℕ → Type 0
+Bytes [] = Unit {0}
+Bytes (b ∷ s) = (b < 256) × Bytes s
 
 -- What is read from the front of some bytes: a thing and the bytes after it, or nothing that fits.
 pub data Read (A : Type 0) : Type 0 where
@@ -12,7 +17,7 @@ pub data Read (A : Type 0) : Type 0 where
   malformed : Read A
 
 -- n in at most k groups and one; k is there for the recursion alone
-abbrev groupsWithin : ℕ → ℕ → List ℕ
+abbrev pub groupsWithin : ℕ → ℕ → List ℕ
 groupsWithin zero n = n ∷ []
 groupsWithin (suc k) n = cond (ltb n 128) (n ∷ []) ((n % 128 + 128) ∷ groupsWithin k (n / 128))
 

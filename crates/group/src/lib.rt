@@ -46,16 +46,28 @@ pub fn read_group(s: &[u8], at: usize, limit: usize) -> GroupRead
         return GroupRead::Malformed;
     }
     let low = s[at] as usize;
-    if limit < low {
-        if low < 128 {
+    if low < 128 {
+        if limit < low {
             return GroupRead::Malformed;
         }
-    }
-    if low < 128 {
         return GroupRead::Number {
             value: low,
             next: at + 1,
         };
     }
-    GroupRead::Malformed
+    if limit < 128 {
+        return GroupRead::Malformed;
+    }
+    match read_group(s, at + 1, (limit - (low - 128)) / 128) {
+        GroupRead::Malformed => GroupRead::Malformed,
+        GroupRead::Number { value, next } => {
+            if value == 0 {
+                return GroupRead::Malformed;
+            }
+            GroupRead::Number {
+                value: low - 128 + 128 * value,
+                next,
+            }
+        }
+    }
 }
