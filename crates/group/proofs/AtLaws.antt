@@ -18,12 +18,12 @@ use Rattle.group.proofs.GroupLaws.{group-small, group-over, group-low, 
 
 -- what was read, by the answer that it is
 of-result : (k : ℕ) (g : Read ℕ) (v n : ℕ) → readAnswer k g ≡ result (v ∷ n ∷ []) → (rest : List ℕ) × (g ≡ got v rest) × (n ≡ k - length rest)
-of-result k malformed v n q = absurd (omega (arith, ap (λ a. a .number) q))
-of-result k (got m rest) v n q = let l = ap (λ a. a .values) q in (rest, cc, cc)
+of-result k malformed v n q = from-no cc
+of-result k (got m rest) v n q = (rest, cc, cc)
 
 of-refused : (k : ℕ) (g : Read ℕ) → readAnswer k g ≡ refused 5 → g ≡ malformed
 of-refused k malformed q = refl
-of-refused k (got m rest) q = absurd (omega (arith, ap (λ a. a .number) q))
+of-refused k (got m rest) q = from-no cc
 
 -- the same after a byte with its top bit set
 low-refused : (k b : ℕ) (g : Read ℕ) → readAnswer k g ≡ refused 5 → readAnswer k (withLow b g) ≡ refused 5
