@@ -1,7 +1,7 @@
 -- Texts as bytes, and tests on them.
-use mathlib.Core.Bool.{Bool, true, false, _&&_, _||_}
+use mathlib.Core.Bool.{Bool, true, false, cond, _&&_, _||_}
 use mathlib.Core.List.{List, [], _∷_}
-use Prim.Native.Nat.{ℕ}
+use Prim.Native.Nat.{ℕ, _-_}
 use Prim.Native.Char.{code}
 use Prim.Native.String.{String}
 use Prim.Native.String as Str
@@ -29,6 +29,14 @@ begins (a ∷ s) (b ∷ t) = eqb a b && begins s t
 abbrev pub any : (ℕ → Bool) → List ℕ → Bool
 any f [] = false
 any f (c ∷ s) = f c || any f s
+
+-- 09 to 0D and 20
+unfoldable pub isSpace : ℕ → Bool
+isSpace b = (leb 9 b && leb b 13) || eqb b 32
+
+-- letters a to z raised
+unfoldable pub raised : ℕ → ℕ
+raised b = cond (leb 97 b && leb b 122) (b - 32) b
 
 -- a byte stands in a text
 unfoldable pub has : ℕ → List ℕ → Bool

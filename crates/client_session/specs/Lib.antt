@@ -1,0 +1,4 @@
+pub mod Session
+pub mod Start
+pub mod Piece
+pub mod Finish

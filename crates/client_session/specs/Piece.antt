@@ -1,0 +1,166 @@
+-- A piece of a reply, and a failure. Document 01: "A reply is complete once it holds `>`, later bytes included." "The call that ends one of these also writes
+-- the next into its out buffer." "a `?` in its reply turns repeat to No and the full query follows, written by the call whose piece completed that reply; any
+-- other reply turns Unknown to Yes." "While the ATZ answer is awaited, 7 to 9 are not given for reads: any piece, an empty one or a failed read is dropped, as in
+-- Rust; a failed write there ends the initialisation with 7 and changes nothing else."
+use mathlib.Core.Bool.{Bool, true, false, cond, _&&_}
+use mathlib.Core.List.{List, [], _∷_, _++_}
+use Prim.Native.Nat.{ℕ, zero, suc, _+_}
+use lib.Dec.{eqb, ltb, leb}
+use lib.ListN.{length, take}
+use lib.Seq.{sets}
+use Rattle.wire.specs.Answer.{Answer, result, refused}
+use Rattle.wire.specs.Text.{ascii, has, high}
+use Rattle.client_session.specs.declared.FeatureSupport.{FeatureSupport}
+use Rattle.client_session.specs.declared.FeatureSupport.the-variants as support
+use Rattle.client_session.specs.declared.FramingEffect.{FramingEffect}
+use Rattle.client_session.specs.declared.FramingEffect.the-variants as effect
+use Rattle.client_session.specs.declared.Under.{Under}
+use Rattle.client_session.specs.declared.Under.the-variants as under
+use Rattle.client_session.specs.Session.{Query, Known, Client, Said, saying, refusing, withUnder, withKnown, withLast, withFraming, withRepeat, withMulti}
+
+-- How far an awaited reply has come.
+pub data Progress : Type 0 where
+  -- more of it is awaited
+  awaited : Progress
+  -- it is complete, and a further command goes out, whose reply is awaited
+  sent : Progress
+  -- the initialisation or the raw command is over
+  over : Progress
+  -- a query's reply is complete
+  complete : Progress
+
+-- the first number of a piece before its bytes are looked at: 1, 3 over the limit, 6 for room under 80 or a store under 4,096
+abbrev pub pieceNumber : ℕ → List ℕ → ℕ → ℕ → ℕ
+pieceNumber limit piece room store = cond (ltb limit (length piece)) 3 (cond (ltb room 80 ) 6 (cond (ltb store 4096) 6 0))
+
+-- multi-PID support that is untested becomes m
+abbrev pub decided : FeatureSupport → FeatureSupport → FeatureSupport
+decided support.Unknown m = m
+decided support.Yes m = support.Yes
+decided support.No m = support.No
+
+-- a query or a repeat of `query_pids` is under way
+abbrev pub isSeveral : Under → Query → Bool
+isSeveral under.Nothing q = false
+isSeveral under.Reset q = false
+isSeveral (under.Setup k) q = false
+isSeveral (under.Raw e) q = false
+isSeveral under.Query q = q .several
+isSeveral under.Repeat q = q .several
+isSeveral under.Complete q = q .several
+
+-- 7, 8 and 9 "end the query or command, forget the last command, leave buffers untouched, and mark untested multi-PID support No in a multi-PID query"
+abbrev pub failedKnown : Bool → Known → Known
+failedKnown several k = withLast (withMulti k (cond several (decided (k .multi) support.No) (k .multi))) []
+
+abbrev pub failing : {A : Type 0} → ℕ → Client → Said A
+failing n c = record {
+  answer = refused n;
+  next = withUnder (withKnown c (failedKnown (isSeveral (c .under) (c .query)) (c .known))) under.Nothing 0;
+  text = [];
+}
+
+-- the commands of the initialisation after ATZ
+abbrev pub setupText : Bool → ℕ → List ℕ
+setupText framing zero = ascii "ATE0\r"
+setupText framing (suc zero) = ascii "ATL0\r"
+setupText framing (suc (suc zero)) = ascii "ATS0\r"
+setupText framing (suc (suc (suc zero))) = ascii "ATSP0\r"
+setupText framing (suc (suc (suc (suc k)))) = cond framing (ascii "ATH1\r") (ascii "ATH0\r")
+
+-- the k-th of them goes out; it is a raw command, so it forgets the last command
+abbrev pub sendSetup : Client → ℕ → Said Progress
+sendSetup c k =
+    saying sent (withUnder (withKnown c (withLast (c .known) [])) (under.Setup k) 0) (setupText (c .known .wanted) k)
+
+-- the k-th is answered: the next one follows, and the last sets framing as it was asked for
+abbrev pub setupDone : Client → ℕ → ℕ → Said Progress
+setupDone c zero n = sendSetup c 1
+setupDone c (suc zero) n = sendSetup c 2
+setupDone c (suc (suc zero)) n = sendSetup c 3
+setupDone c (suc (suc (suc zero))) n = sendSetup c 4
+setupDone c (suc (suc (suc (suc k)))) n = saying over (withUnder (withKnown c (withFraming (c .known) (c .known .wanted))) under.Nothing n) []
+
+abbrev pub afterEffect : FramingEffect → Bool → Bool
+afterEffect effect.Kept framing = framing
+afterEffect effect.On framing = true
+afterEffect effect.Off framing = false
+
+-- a reply r is complete; out of turn nothing is awaited
+abbrev pub completed : Under → Client → List ℕ → Said Progress
+completed under.Nothing c r = refusing 1 c
+completed under.Reset c r = sendSetup c 0
+completed (under.Setup k) c r = setupDone c k (length r)
+completed (under.Raw e) c r =
+    saying over (withUnder (withKnown c (withFraming (c .known) (afterEffect e (c .known .framing)))) under.Nothing (length r)) []
+completed under.Query c r = saying complete (withUnder (withKnown c (withLast (c .known) (c .query .text))) under.Complete (length r)) []
+completed under.Repeat c r =
+    cond (has 63 r)
+    (saying sent (withUnder (withKnown c (withRepeat (c .known) support.No)) under.Query 0) (c .query .text ++ (13 ∷ [])))
+    (saying complete (withUnder (withKnown c (withRepeat (c .known) (decided (c .known .repeat) support.Yes))) under.Complete (length r)) [])
+completed under.Complete c r = refusing 1 c
+
+-- the reply so far: what the lent store holds of it, at most 4,096 bytes
+abbrev pub replyIn : Client → List ℕ → List ℕ
+replyIn c store = take (c .got) (take 4096 store)
+
+-- a reply joined with a piece: 7 for an empty piece, 8 past 4,096, 9 for a byte of 80 or more
+unfoldable pub replyTakes : Client → List ℕ → List ℕ → Said Progress
+replyTakes c piece store =
+    let r = replyIn c store ++ piece in
+    cond (eqb (length piece) 0) (failing 7 c)
+    (cond (ltb 4096 (c .got + length piece)) (failing 8 c)
+    (cond (high r) (failing 9 c)
+    (cond (has 62 r) (completed (c .under) c r) (saying awaited (withUnder c (c .under) (length r)) []))))
+
+abbrev pub numbered : {A : Type 0} → ℕ → Client → Said A → Said A
+numbered n c d = cond (eqb n 0) d (refusing n c)
+
+-- what a piece says, by what is under way
+abbrev pub pieceUnder : Under → ℕ → Client → List ℕ → List ℕ → Said Progress
+pieceUnder under.Nothing room c piece store = refusing 1 c
+pieceUnder under.Reset room c piece store = numbered (pieceNumber 256 piece room (length store)) c (sendSetup c 0)
+pieceUnder (under.Setup k) room c piece store = numbered (pieceNumber 128 piece room (length store)) c (replyTakes c piece store)
+pieceUnder (under.Raw e) room c piece store = numbered (pieceNumber 128 piece room (length store)) c (replyTakes c piece store)
+pieceUnder under.Query room c piece store = numbered (pieceNumber 128 piece room (length store)) c (replyTakes c piece store)
+pieceUnder under.Repeat room c piece store = numbered (pieceNumber 128 piece room (length store)) c (replyTakes c piece store)
+pieceUnder under.Complete room c piece store = refusing 1 c
+
+unfoldable pub pieceSays : ℕ → Client → List ℕ → List ℕ → Said Progress
+pieceSays room c piece store = pieceUnder (c .under) room c piece store
+
+-- the store afterwards: an accepted piece is appended, but the dropped answer to ATZ is not
+abbrev pub stored : Under → Answer Progress → ℕ → List ℕ → List ℕ → List ℕ
+stored u (refused n) at piece store = store
+stored under.Nothing (result p) at piece store = store
+stored under.Reset (result p) at piece store = store
+stored (under.Setup k) (result p) at piece store = sets store at piece
+stored (under.Raw e) (result p) at piece store = sets store at piece
+stored under.Query (result p) at piece store = sets store at piece
+stored under.Repeat (result p) at piece store = sets store at piece
+stored under.Complete (result p) at piece store = store
+
+-- a failed write or read, by what is under way
+abbrev pub failureUnder : Under → Bool → Client → Said Progress
+failureUnder under.Nothing write c = refusing 1 c
+failureUnder under.Reset true c = record { answer = refused 7; next = withUnder c under.Nothing 0; text = [] }
+failureUnder under.Reset false c = sendSetup c 0
+failureUnder (under.Setup k) write c = failing 7 c
+failureUnder (under.Raw e) write c = failing 7 c
+failureUnder under.Query write c = failing 7 c
+failureUnder under.Repeat write c = failing 7 c
+failureUnder under.Complete write c = refusing 1 c
+
+-- a reply is awaited
+abbrev pub isAwaited : Under → Bool
+isAwaited under.Nothing = false
+isAwaited under.Reset = true
+isAwaited (under.Setup k) = true
+isAwaited (under.Raw e) = true
+isAwaited under.Query = true
+isAwaited under.Repeat = true
+isAwaited under.Complete = false
+
+-- a failure that the host tells of: 1, then 6 for room under 80
+unfoldable pub failureSays : ℕ → Client → Bool → Said Progress
+failureSays room c write = cond (isAwaited (c .under)) (numbered (cond (ltb room 80) 6 0) c (failureUnder (c .under) write c)) (refusing 1 c)
