@@ -42,3 +42,29 @@ fn leading_digit(c: u8) -> HexDigit
     }
     hex_digit(c)
 }
+
+// Two characters as a byte.
+pub fn hex_pair(a: u8, b: u8) -> HexByte
+    ensures { λ r. ⌜ byteOf r ≡ hexNumber (a ∷ b ∷ []) ⌝ }
+{
+    let HexDigit::Digit(high) = leading_digit(a) else {
+        return HexByte::Bad;
+    };
+    let HexDigit::Digit(low) = hex_digit(b) else {
+        return HexByte::Bad;
+    };
+    HexByte::Byte(16 * high + low)
+}
+
+// Three characters as an id: a pair and one digit more.
+pub fn hex_id(a: u8, b: u8, c: u8) -> HexId
+    ensures { λ r. ⌜ idOf r ≡ hexNumber (a ∷ b ∷ c ∷ []) ⌝ }
+{
+    let HexByte::Byte(high) = hex_pair(a, b) else {
+        return HexId::Bad;
+    };
+    let HexDigit::Digit(low) = hex_digit(c) else {
+        return HexId::Bad;
+    };
+    HexId::Id(16 * (high as u16) + (low as u16))
+}
