@@ -19,3 +19,8 @@ hexByte b = hexDigits 2 b
 
 abbrev pub hexId : ℕ → List ℕ
 hexId n = hexDigits 3 n
+
+-- data in capital hex: a pair for each byte, nothing between them
+abbrev pub hexBytes : List ℕ → List ℕ
+hexBytes [] = []
+hexBytes (b ∷ s) = hexByte b ++ hexBytes s

@@ -6,7 +6,7 @@ use mathlib.Core.Option.{Option, none, some}
 use Prim.Native.Nat.{ℕ, _+_, _-_, _*_}
 use lib.Dec.{eqb, leb}
 
-abbrev within : ℕ → ℕ → ℕ → Bool
+abbrev pub within : ℕ → ℕ → ℕ → Bool
 within lo hi c = leb lo c && leb c hi
 
 -- the digit's number: 0 to 9, A to F, a to f
@@ -22,8 +22,7 @@ leading c = cond (eqb c 43) (some 0) (digit c)
 
 -- a number and one digit more
 abbrev pub shifted : Option ℕ → Option ℕ → Option ℕ
-shifted none none = none
-shifted none (some d) = none
+shifted none d = none
 shifted (some n) none = none
 shifted (some n) (some d) = some (16 * n + d)
 

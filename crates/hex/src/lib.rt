@@ -1,6 +1,7 @@
 // Hex digits, pairs and three-digit ids, read and written.
 ghost use mathlib.Core.Path.{_≡_};
 ghost use mathlib.Core.List.{[], _∷_};
+ghost use Prim.Native.Nat.{_%_};
 ghost use Rattle.wire.specs.Put.{Put};
 ghost use Rattle.hex.specs.Read.{digit, leading, hexNumber};
 ghost use Rattle.hex.specs.Digits.{hexDigit, hexByte, hexId};
@@ -41,4 +42,57 @@ fn leading_digit(c: u8) -> HexDigit
         return HexDigit::Digit(0);
     }
     hex_digit(c)
+}
+
+// Two characters as a byte.
+pub fn hex_pair(a: u8, b: u8) -> HexByte
+    ensures { λ r. ⌜ byteOf r ≡ hexNumber (a ∷ b ∷ []) ⌝ }
+{
+    let HexDigit::Digit(high) = leading_digit(a) else {
+        return HexByte::Bad;
+    };
+    let HexDigit::Digit(low) = hex_digit(b) else {
+        return HexByte::Bad;
+    };
+    HexByte::Byte(16 * high + low)
+}
+
+// Three characters as an id: a pair and one digit more.
+pub fn hex_id(a: u8, b: u8, c: u8) -> HexId
+    ensures { λ r. ⌜ idOf r ≡ hexNumber (a ∷ b ∷ c ∷ []) ⌝ }
+{
+    let HexByte::Byte(high) = hex_pair(a, b) else {
+        return HexId::Bad;
+    };
+    let HexDigit::Digit(low) = hex_digit(c) else {
+        return HexId::Bad;
+    };
+    HexId::Id(16 * (high as u16) + (low as u16))
+}
+
+// The capital digit of a number's low half.
+pub fn hex_char(n: u8) -> u8
+    ensures { λ r. ⌜ r ≡ hexDigit (n % 16) ⌝ }
+{
+    let d = n % 16;
+    if d < 10 {
+        return 48 + d;
+    }
+    55 + d
+}
+
+// A byte as two digits, from position at on.
+pub fn put_hex_byte(out: &mut [u8], at: usize, byte: u8) -> usize
+    ensures { λ r. ⌜ Put (now (out .entry)) at (hexByte byte) r (now (out .exit)) ⌝ }
+{
+    let at = wire::put_byte(out, at, hex_char(byte / 16));
+    wire::put_byte(out, at, hex_char(byte))
+}
+
+// The low 12 bits of an id as three digits, from position at on.
+pub fn put_hex_id(out: &mut [u8], at: usize, id: u16) -> usize
+    ensures { λ r. ⌜ Put (now (out .entry)) at (hexId id) r (now (out .exit)) ⌝ }
+{
+    let at = put_hex_byte(out, at, (id / 16 % 256) as u8);
+    wire::put_byte(out, at, hex_char((id % 16) as u8))
 }

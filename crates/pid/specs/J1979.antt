@@ -16,7 +16,7 @@ pids a b n = record { first = a; last = b; size = n }
 
 abbrev rows : List Row
 rows =
-    pids 0x00 0x00 4 ∷ pids 0x20 0x20 4 ∷ pids 0x40 0x40 4 ∷ pids 0x60 0x60 4 ∷  -- PIDs supported: a bit for each of the next 20
+    pids 0x00 0x00 4 ∷ pids 0x20 0x20 4 ∷ pids 0x40 0x40 4 ∷ pids 0x60 0x60 4 ∷  -- PIDs supported: a bit for each of the next 32
     pids 0x80 0x80 4 ∷ pids 0xA0 0xA0 4 ∷ pids 0xC0 0xC0 4 ∷
     pids 0x01 0x01 4 ∷ pids 0x41 0x41 4 ∷  -- monitor status: since codes cleared, this drive cycle
     pids 0x02 0x02 2 ∷  -- code that caused the freeze frame

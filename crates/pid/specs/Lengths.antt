@@ -1,9 +1,9 @@
 -- Document 01, pid.rs: "The 256-entry table of known lengths, most entries unknown"; "A learned length may be 0, so unknown needs a mark of its own."
-use mathlib.Core.Bool.{cond}
+use mathlib.Core.Bool.{Bool, true, false, cond, _||_}
 use mathlib.Core.List.{List, [], _∷_}
 use mathlib.Core.Option.{Option, none, some}
 use Prim.Native.Nat.{ℕ, zero, suc}
-use lib.Dec.{ltb}
+use lib.Dec.{ltb, leb, eqb}
 use lib.ListN.{getD}
 use Rattle.pid.specs.J1979.{j1979}
 use Rattle.pid.specs.declared.DataLength.{DataLength}
@@ -30,11 +30,23 @@ entries f i (suc n) = f i ∷ entries f (suc i) n
 unfoldable pub mode01Lengths : List ℕ
 mode01Lengths = entries (λ p. marked (j1979 p)) 0 256
 
--- the length of a PID in a table
+-- the length of a PID in a table, which has an entry for every PID
 abbrev pub lengthIn : List ℕ → ℕ → Option ℕ
-lengthIn lengths p = entryLength (getD lengths p unknown)
+lengthIn lengths p = entryLength (getD lengths p 0)
 
 -- the cases of DataLength
 abbrev pub dataLength : DataLength → Option ℕ
 dataLength (Known n) = some n
 dataLength Unknown = none
+
+-- "105 entries are known: 00 to 65, 80, A0, C0": whether a PID is one of these, whether its length is known, and how many entries of a table are
+abbrev pub listed : ℕ → Bool
+listed p = leb p 0x65 || (eqb p 0x80 || (eqb p 0xA0 || eqb p 0xC0))
+
+abbrev pub isKnown : Option ℕ → Bool
+isKnown none = false
+isKnown (some n) = true
+
+abbrev pub knownIn : List ℕ → ℕ
+knownIn [] = 0
+knownIn (n ∷ s) = cond (ltb n unknown) (suc (knownIn s)) (knownIn s)
