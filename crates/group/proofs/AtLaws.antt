@@ -6,11 +6,8 @@ use native.Mathlib.Numerals.{add-one}
 use native.Mathlib.Omega.{arith}
 use lib.ListN.{length, drop, getD, length-drop, drop-of-length-le}
 use lib.Seq.{drop-cons, drop-drop}
-use lib.Dec.{leb}
-use borrow.Author.Tests.{eq-eqb, leb-true, leb-false}
-use Rattle.wire.specs.Answer.{Answer, result, refused}
-use Rattle.wire.proofs.Cases.{by-test, from-no}
-use Rattle.group.specs.Group.{Read, got, malformed, withLow, readNumber, readGroup}
+use Rattle.wire.specs.Answer.{result, refused}
+use Rattle.group.specs.Group.{Read, got, malformed, withLow, readGroup}
 use Rattle.group.specs.Answers.{groupRead, readAnswer, groupAt}
 use Rattle.group.specs.declared.GroupRead.{GroupRead}
 use Rattle.group.specs.declared.GroupRead.the-variants.{Number, Malformed}

@@ -1,14 +1,13 @@
 -- Laws of group numbers: how a number is written, that reading gives back what was written, and that nothing else is read.
 use mathlib.Core.Path.{_≡_, refl, sym, ap, _∙_}
-use mathlib.Core.Bool.{Bool, true, false}
 use mathlib.Core.List.{List, [], _∷_, _++_}
 use Prim.Native.Nat.{ℕ, zero, suc, _+_, _-_, _*_, _/_, _%_, _^_, _≤_, _<_}
 use native.Mathlib.Nat.{pow-succ'}
 use native.Mathlib.Omega.{arith}
 use lib.Dec.{eqb, ltb, leb}
-use lib.ListN.{length, take, drop, length-append, take-append-drop}
-use lib.Seq.{take-append-seam, drop-append-seam, length-take-le}
-use borrow.Author.Tests.{ltb-true, ltb-false, lt-ltb, le-ltb, leb-true, leb-false, le-leb, lt-leb, eqb-true, eqb-false, eq-eqb, ne-eqb}
+use lib.ListN.{length, take, drop, length-append}
+use lib.Seq.{take-append-seam, drop-append-seam}
+use borrow.Author.Tests.{ltb-true, ltb-false, lt-ltb, le-ltb, leb-true, leb-false, le-leb, lt-leb, eqb-false, ne-eqb}
 use Rattle.wire.proofs.Cases.{by-test, from-no}
 use Rattle.group.specs.Group.{Bytes, Read, got, malformed, groupsWithin, groupBytes, withLow, readNumber, upTo, readGroup, readBytes, andThen}
 
@@ -175,6 +174,29 @@ group-small limit b s h k = rw (read-small b s h, le-leb b limit k)
 
 pub group-over : (limit b : ℕ) (s : List ℕ) → b < 128 → limit < b → readGroup limit (b ∷ s) ≡ malformed
 group-over limit b s h k = rw (read-small b s h, lt-leb b limit k)
+
+-- Bytes as they stand, and one thing after another
+
+pub bytes-written : (d s : List ℕ) → readBytes (length d) (d ++ s) ≡ got d s
+bytes-written d s =
+    let fits : length d ≤ length (d ++ s) = omega (arith, length-append d s) in
+    rw (le-leb _ _ fits, take-append-seam, drop-append-seam)
+
+pub bytes-got : (n : ℕ) (s d rest : List ℕ) → readBytes n s ≡ got d rest → (n ≤ length s) × (d ≡ take n s) × (rest ≡ drop n s)
+bytes-got n s d rest q =
+    by-test (leb n (length s))
+    (λ e. let q₁ = rw e at q in (leb-true n (length s) e, cc, cc))
+    (λ e. let q₁ = rw e at q in from-no cc)
+
+-- what two readings in a row have read
+pub then-got : {A B : Type 0} (g : Read A) (k : A → List ℕ → Read B) (b : B) (rest : List ℕ) → andThen g k ≡ got b rest →
+    (a : A) × (s : List ℕ) × (g ≡ got a s) × (k a s ≡ got b rest)
+then-got malformed k b rest q = from-no cc
+then-got (got a s) k b rest q = (a, s, refl, q)
+
+pub bytes-append : (s t : List ℕ) → Bytes (s ++ t) → Bytes s × Bytes t
+bytes-append [] t h = (tt, h)
+bytes-append (b ∷ s) t h = let r = bytes-append s t (h .1) in ((h .0, r .0), r .1)
 
 -- How long a number is
 

@@ -1,7 +1,7 @@
 -- Document 01, "Group numbers and value records": "A *line* is ECU+1 (0 when unknown, so at most 4,096) and a length (at most 255) as group numbers,
 -- then the data. A line list has at most 64 lines and ends with its buffer. 5 when any of this fails." (Line and line list are document 01's terms.)
 use mathlib.Core.List.{List, [], _∷_, _++_}
-use Prim.Native.Nat.{ℕ, zero, suc}
+use Prim.Native.Nat.{ℕ, zero, suc, _≤_}
 use lib.ListN.{length}
 use Rattle.group.specs.Group.{Read, got, malformed, groupBytes, readGroup, readBytes, andThen}
 
@@ -12,6 +12,15 @@ pub record Line : Type 0 where
 
 abbrev pub line : ℕ → List ℕ → Line
 line e d = record { ecu = e; bytes = d }
+
+-- the lines that the form has room for
+pub record Fits (l : Line) : Type 0 where
+  pub known : l .ecu ≤ 4096
+  pub short : length (l .bytes) ≤ 255
+
+abbrev pub AllFit : List Line → Type 0
+AllFit [] = Unit {0}
+AllFit (l ∷ ls) = Fits l × AllFit ls
 
 -- written
 abbrev pub lineBytes : Line → List ℕ
