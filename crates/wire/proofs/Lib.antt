@@ -1,3 +1,4 @@
 pub mod PutLaws
 pub mod Cases
 pub mod Rules
+pub mod TextLaws

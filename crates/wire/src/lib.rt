@@ -1,7 +1,9 @@
-// Bytes written into lent buffers. Every writer of this library stores as far as the buffer reaches and
-// returns the position after what it stored, so writers follow one another with nothing asked in between.
+// Bytes written into lent buffers, and texts looked at. Every writer of this library stores as far as the buffer reaches
+// and returns the position after what it stored, so writers follow one another with nothing asked in between.
 ghost use Rattle.wire.specs.Put.{Put};
+ghost use Rattle.wire.specs.Text.{same, begins, has, high};
 ghost use mathlib.Core.List.{[], _∷_};
+ghost use mathlib.Core.Path.{_≡_};
 
 // One byte at position at.
 pub fn put_byte(out: &mut [u8], at: usize, byte: u8) -> usize
@@ -25,4 +27,59 @@ pub fn put(out: &mut [u8], at: usize, text: &[u8]) -> usize
         i += 1;
     }
     at
+}
+
+// Whether s begins with text.
+pub fn begins(s: &[u8], text: &[u8]) -> bool
+    ensures { λ r. ⌜ r ≡ begins (now (s .entry)) (now (text .entry)) ⌝ }
+{
+    if s.len() < text.len() {
+        return false;
+    }
+    let mut i = 0;
+    while i < text.len() {
+        if s[i] != text[i] {
+            return false;
+        }
+        i += 1;
+    }
+    true
+}
+
+// Whether s is text.
+pub fn same(s: &[u8], text: &[u8]) -> bool
+    ensures { λ r. ⌜ r ≡ same (now (s .entry)) (now (text .entry)) ⌝ }
+{
+    if s.len() != text.len() {
+        return false;
+    }
+    begins(s, text)
+}
+
+// Whether the byte stands in s.
+pub fn has(s: &[u8], byte: u8) -> bool
+    ensures { λ r. ⌜ r ≡ has byte (now (s .entry)) ⌝ }
+{
+    let mut i = 0;
+    while i < s.len() {
+        if s[i] == byte {
+            return true;
+        }
+        i += 1;
+    }
+    false
+}
+
+// Whether a byte of 80 hex or more stands in s.
+pub fn has_high(s: &[u8]) -> bool
+    ensures { λ r. ⌜ r ≡ high (now (s .entry)) ⌝ }
+{
+    let mut i = 0;
+    while i < s.len() {
+        if 0x80 <= s[i] {
+            return true;
+        }
+        i += 1;
+    }
+    false
 }
