@@ -31,7 +31,7 @@ pub data Progress : Type 0 where
 
 -- the first number of a piece before its bytes are looked at: 1, 3 over the limit, 6 for room under 80 or a store under 4,096
 abbrev pub pieceNumber : ℕ → List ℕ → ℕ → ℕ → ℕ
-pieceNumber limit piece room store = cond (ltb limit (length piece)) 3 (cond (ltb room 80 ) 6 (cond (ltb store 4096) 6 0))
+pieceNumber limit piece room store = cond (ltb limit (length piece)) 3 (cond (ltb room 80) 6 (cond (ltb store 4096) 6 0))
 
 -- multi-PID support that is untested becomes m
 abbrev pub decided : FeatureSupport → FeatureSupport → FeatureSupport

@@ -7,6 +7,7 @@ use native.Mathlib.Omega.{arith}
 use lib.ListN.{length, drop, getD, length-drop, drop-of-length-le}
 use lib.Seq.{drop-cons, drop-drop}
 use Rattle.wire.specs.Answer.{result, refused}
+use Rattle.wire.proofs.Cases.{from-no}
 use Rattle.group.specs.Group.{Read, got, malformed, withLow, readGroup}
 use Rattle.group.specs.Answers.{groupRead, readAnswer, groupAt}
 use Rattle.group.specs.declared.GroupRead.{GroupRead}

@@ -4,6 +4,7 @@ use mathlib.Core.List.{List, [], _∷_}
 use Prim.Native.Nat.{ℕ, zero, suc, _+_, _-_, _≤_, _<_}
 use native.Mathlib.Omega.{arith}
 use lib.ListN.{length, take, drop}
+use Rattle.wire.proofs.Cases.{from-no}
 use Rattle.wire.specs.Answer.{Answer, result, refused}
 use Rattle.group.specs.Group.{Read, got, malformed, andThen}
 use Rattle.line_list.specs.Lines.{Line, line, readLine, readAllLines, lineList}
@@ -14,7 +15,7 @@ use Rattle.line_list.proofs.LineLaws.{list-got}
 use Rattle.line_list.proofs.StepLaws.{LineHere, left-end, left-line, left-none, left-full}
 
 -- the answer when n lines have been counted, and the others are read as said
-abbrev pub counted : ℕ → Read (List Line) → Answer
+abbrev pub counted : ℕ → Read (List Line) → Answer (List ℕ)
 counted n malformed = refused 5
 counted n (got ls rest) = result ((n + length ls) ∷ [])
 
@@ -50,12 +51,12 @@ module _ (n : ℕ) (s : List ℕ) (at : ℕ) where
 -- What the check tells its caller
 
 of-count : (g : Read (List Line)) (n : ℕ) → countAnswer g ≡ result (n ∷ []) → (ls : List Line) × (rest : List ℕ) × (g ≡ got ls rest) × (length ls ≡ n)
-of-count malformed n q = absurd (omega (arith, ap (λ a. a .number) q))
-of-count (got ls rest) n q = let v = ap (λ a. a .values) q in (ls, rest, refl, cc)
+of-count malformed n q = from-no cc
+of-count (got ls rest) n q = (ls, rest, refl, cc)
 
 of-refused : (g : Read (List Line)) → countAnswer g ≡ refused 5 → g ≡ malformed
 of-refused malformed q = refl
-of-refused (got ls rest) q = absurd (omega (arith, ap (λ a. a .number) q))
+of-refused (got ls rest) q = from-no cc
 
 pub check-lines : (s : List ℕ) {r : LinesCheck} {n : ℕ} → linesCheck r ≡ linesIn s → r ≡ check.Lines n → (ls : List Line) × (lineList s ≡ got ls []) × (length ls ≡ n)
 unfolding linesIn

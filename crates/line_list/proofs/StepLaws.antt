@@ -57,11 +57,11 @@ module _ (s : List ℕ) (at e i : ℕ) (p : NumberAt 4096 s at e i) where
 
 of-line : (k : ℕ) (g : Read Line) (e start next : ℕ) → lineAnswer k g ≡ result (e ∷ start ∷ next ∷ []) →
     (l : Line) × (rest : List ℕ) × (g ≡ got l rest) × (e ≡ l .ecu) × (start ≡ k - length rest - length (l .bytes)) × (next ≡ k - length rest)
-of-line k malformed e start next q = absurd (omega (arith, ap (λ a. a .number) q))
-of-line k (got l rest) e start next q = let v = ap (λ a. a .values) q in (l, rest, refl, cc, cc, cc)
+of-line k malformed e start next q = from-no cc
+of-line k (got l rest) e start next q = (l, rest, refl, cc, cc, cc)
 
 of-step : (k : ℕ) (t : List ℕ) (e start next : ℕ) → stepAnswer k t ≡ result (e ∷ start ∷ next ∷ []) → lineAnswer k (readLine t) ≡ result (e ∷ start ∷ next ∷ [])
-of-step k [] e start next q = let v = ap (λ a. a .values) q in from-no cc
+of-step k [] e start next q = from-no cc
 of-step k (b ∷ t) e start next q = q
 
 -- A line stands at a position: its ECU+1, where its data start and where they end.
@@ -101,8 +101,8 @@ step-line s at {r} {e} {start} {next} q d =
     line-here s at e start (next .at) l rest g p₁ p₂ p₃
 
 of-end : (k : ℕ) (g : Read Line) → lineAnswer k g ≡ result [] → ⊥
-of-end k malformed q = omega (arith, ap (λ a. a .number) q)
-of-end k (got l rest) q = let v = ap (λ a. a .values) q in from-no cc
+of-end k malformed q = from-no cc
+of-end k (got l rest) q = from-no cc
 
 of-stop : (k : ℕ) (t : List ℕ) → stepAnswer k t ≡ result [] → length t ≡ 0
 of-stop k [] q = refl
@@ -110,10 +110,10 @@ of-stop k (b ∷ t) q = absurd (of-end k (readLine (b ∷ t)) q)
 
 of-refused : (k : ℕ) (g : Read Line) → lineAnswer k g ≡ refused 5 → g ≡ malformed
 of-refused k malformed q = refl
-of-refused k (got l rest) q = absurd (omega (arith, ap (λ a. a .number) q))
+of-refused k (got l rest) q = from-no cc
 
 of-none : (k : ℕ) (t : List ℕ) → stepAnswer k t ≡ refused 5 → (0 < length t) × (readLine t ≡ malformed)
-of-none k [] q = absurd (omega (arith, ap (λ a. a .number) q))
+of-none k [] q = from-no cc
 of-none k (b ∷ t) q = (omega arith, of-refused k (readLine (b ∷ t)) q)
 
 pub step-end : (s : List ℕ) (at : ℕ) {r : LineStep} → lineStep r ≡ lineAt s at → r ≡ step.End → length s ≤ at
