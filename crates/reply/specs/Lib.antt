@@ -1,2 +1,3 @@
 pub mod Shape
 pub mod Reply
+pub mod Answers

@@ -2,6 +2,16 @@
 ghost use mathlib.Core.List.{[], _∷_};
 ghost use Rattle.wire.specs.Put.{Put};
 ghost use Rattle.reply.specs.Shape.{chipReply};
+ghost use Rattle.reply.specs.Answers.{replyAnswer, replied};
+
+pub enum ReplyAnswer {
+    // So many bytes stand at the front of out.
+    Written(usize),
+    // 5: not a line list.
+    Malformed,
+    // 6: the reply is longer than out.
+    SmallBuffer,
+}
 
 // What follows the last line of a reply: an empty line and the prompt.
 pub fn put_prompt(out: &mut [u8], at: usize, linefeeds: bool) -> usize
