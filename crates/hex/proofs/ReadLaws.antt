@@ -1,14 +1,14 @@
 -- Laws of the digits read: a digit by the range that its character is in, and how large a number of so many characters can be.
-use mathlib.Core.Path.{_≡_, refl, sym, ap, _∙_}
-use mathlib.Core.Bool.{Bool, true, false, cond, _&&_}
+use mathlib.Core.Path.{_≡_}
+use mathlib.Core.Bool.{true, false, cond}
 use mathlib.Core.List.{List, [], _∷_}
 use mathlib.Core.Option.{Option, none, some}
-use Prim.Native.Nat.{ℕ, zero, suc, _+_, _-_, _*_, _^_, _≤_, _<_}
+use Prim.Native.Nat.{ℕ, _-_, _*_, _^_, _≤_, _<_}
 use native.Mathlib.Nat.{pow-suc, mul-assoc, one-mul}
 use native.Mathlib.Omega.{arith}
 use lib.Dec.{eqb, leb}
 use lib.ListN.{length}
-use borrow.Author.Tests.{le-leb, lt-leb, leb-true, leb-false}
+use borrow.Author.Tests.{le-leb, lt-leb, leb-true}
 use Rattle.wire.proofs.Cases.{by-test}
 use Rattle.hex.specs.Read.{within, digit, leading, shifted, digitsAfter, hexNumber}
 
@@ -52,6 +52,7 @@ Below k (some n) = n < k
 pub below-at : (k : ℕ) {o : Option ℕ} {n : ℕ} → Below k o → o ≡ some n → n < k
 below-at k b e = rw e at b
 
+-- a digit, and one that stands first
 pub digit-small : (c : ℕ) → Below 16 (digit c)
 unfolding digit
 digit-small c =
@@ -69,6 +70,7 @@ pub leading-small : (c : ℕ) → Below 16 (leading c)
 unfolding leading
 leading-small c = by-test (eqb c 43) (λ e. rw e (omega arith)) (λ e. rw e (digit-small c))
 
+-- each digit more is a factor of 16
 shifted-small : (k : ℕ) (o d : Option ℕ) → Below k o → Below 16 d → Below (16 * k) (shifted o d)
 shifted-small k none d b s = tt
 shifted-small k (some n) none b s = tt
@@ -79,7 +81,7 @@ after-small k o [] b = rw one-mul b
 after-small k o (c ∷ s) b =
     rw (pow-suc, mul-assoc) (after-small (16 * k) (shifted o (digit c)) s (shifted-small k o (digit c) b (digit-small c)))
 
--- pairs and ids alike: below 256, below 4096
+-- so a pair is below 256 and an id below 4096
 pub number-small : (s : List ℕ) → Below (16 ^ length s) (hexNumber s)
 number-small [] = tt
 number-small (c ∷ s) = rw pow-suc (after-small 16 (leading c) s (leading-small c))

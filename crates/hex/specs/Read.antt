@@ -16,7 +16,7 @@ digit c =
     (cond (within 65 70 c) (some (c - 55))
     (cond (within 97 102 c) (some (c - 87)) none))
 
--- the first character's number: `+` stands for no digit
+-- the first character's number: a `+` adds nothing to the digits after it, so it counts as 0
 unfoldable pub leading : ℕ → Option ℕ
 leading c = cond (eqb c 43) (some 0) (digit c)
 
@@ -30,7 +30,7 @@ abbrev pub digitsAfter : Option ℕ → List ℕ → Option ℕ
 digitsAfter n [] = n
 digitsAfter n (c ∷ s) = digitsAfter (shifted n (digit c)) s
 
--- the number of a pair's two characters or of an id's three, none where one is bad
+-- the number of a pair's two characters or of an id's three, none where one is bad (a lone `+`, which Rust refuses, is never asked for)
 abbrev pub hexNumber : List ℕ → Option ℕ
 hexNumber [] = none
 hexNumber (c ∷ s) = digitsAfter (leading c) s

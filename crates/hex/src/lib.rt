@@ -34,7 +34,7 @@ pub fn hex_digit(c: u8) -> HexDigit
     }
 }
 
-// The first character of a pair or an id: `+` counts as no digit, as in Rust's `from_str_radix`.
+// The first character of a pair or an id: a `+` counts as 0, as in Rust's `from_str_radix`.
 fn leading_digit(c: u8) -> HexDigit
     ensures { λ r. ⌜ digitOf r ≡ leading c ⌝ }
 {

@@ -1,5 +1,5 @@
 -- SAE J1979 (ISO 15031-5), mode 01: how many data bytes each PID has, by what the PIDs are.
-use mathlib.Core.Bool.{Bool, cond, _&&_}
+use mathlib.Core.Bool.{cond, _&&_}
 use mathlib.Core.List.{List, [], _∷_}
 use mathlib.Core.Option.{Option, none, some}
 use Prim.Native.Nat.{ℕ}
