@@ -10,19 +10,13 @@ use Rattle.line_list.specs.Lines.{Line}
 use Rattle.value.specs.Values.{Value, valuesBytes}
 use Rattle.reply_lines.specs.Decode.{replyLines}
 use Rattle.reply_values.specs.Values.{valuesOf, answerOrder}
-use Rattle.reply_values.specs.Learn.{learnLength, learnCounts, givenPids}
+use Rattle.reply_values.specs.Learn.{lengthsAfter, learnCounts, givenPids}
 use Rattle.client_session.specs.declared.FeatureSupport.{FeatureSupport}
 use Rattle.client_session.specs.declared.FeatureSupport.the-variants as support
 use Rattle.client_session.specs.declared.Under.{Under}
 use Rattle.client_session.specs.declared.Under.the-variants as under
 use Rattle.client_session.specs.Session.{Query, Known, Client, Said, saying, refusing}
 use Rattle.client_session.specs.Piece.{decided, failing, replyIn}
-
--- the lengths after a reply: one PID's may be learned
-abbrev pub lengthsAfter : Bool → List ℕ → List ℕ → List Line → List ℕ
-lengthsAfter true pids lengths ls = lengths
-lengthsAfter false [] lengths ls = lengths
-lengthsAfter false (p ∷ ps) lengths ls = learnLength lengths p ls
 
 -- multi-PID support after a reply: with two of the queried PIDs it is confirmed, else refused
 abbrev pub multiAfter : Bool → List ℕ → FeatureSupport → List Value → FeatureSupport

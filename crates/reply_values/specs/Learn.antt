@@ -47,6 +47,12 @@ learnUnknown lengths p ls (some n) = lengths
 unfoldable pub learnLength : List ℕ → ℕ → List Line → List ℕ
 learnLength lengths p ls = learnUnknown lengths p ls (lengthIn lengths p)
 
+-- the lengths after a reply to a query: only a query of one PID (`query_pid`) may learn its length
+abbrev pub lengthsAfter : Bool → List ℕ → List ℕ → List Line → List ℕ
+lengthsAfter true pids lengths ls = lengths
+lengthsAfter false [] lengths ls = lengths
+lengthsAfter false (p ∷ ps) lengths ls = learnLength lengths p ls
+
 -- the known ids among some values, each where it stands last
 abbrev pub differentIds : List Value → List ℕ
 differentIds [] = []
