@@ -52,7 +52,7 @@ abbrev pub readPart : List ℕ → Read (List Value)
 readPart s = andThen (readNumber s) readValues
 
 -- parts to the end of the bytes; a part has a byte at least, so as many steps as there are bytes are enough
-abbrev readParts : ℕ → List ℕ → Read (List (List Value))
+abbrev pub readParts : ℕ → List ℕ → Read (List (List Value))
 readParts zero [] = got [] []
 readParts (suc n) [] = got [] []
 readParts zero (b ∷ s) = malformed

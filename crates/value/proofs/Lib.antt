@@ -1,0 +1,4 @@
+pub mod Readings
+pub mod ValueLaws
+pub mod RecordLaws
+pub mod StepLaws
