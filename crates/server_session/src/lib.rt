@@ -1,5 +1,7 @@
 // The server end of the wire protocol: it plays an ELM327 to a reader (server_session.rs of the Rust). Each call takes the session by value and gives the
 // next one back.
+mod replies;
+
 use client_state::ClientState;
 ghost use mathlib.Core.Path.{_≡_};
 ghost use lib.ListN.{length};
@@ -53,6 +55,29 @@ pub struct BytesStep {
     pub answer: ByteAnswer,
     // How many bytes of the input were taken.
     pub taken: usize,
+    pub written: usize,
+    pub session: ServerSession,
+}
+
+// What an answer, a reply or a rejection did.
+pub enum ServerAnswer {
+    // It is to be sent, and the next line is read.
+    Sent,
+    // 1: no command of its kind is handed out.
+    OutOfTurn,
+    // 3: an identity string over 32 bytes, or a rejection over 64.
+    TooLong,
+    // 4: a byte of 80 or more in one of them.
+    NotAscii,
+    // 5: not a line list.
+    Malformed,
+    // 6: out is too small.
+    SmallBuffer,
+}
+
+pub struct ReplyStep {
+    pub answer: ServerAnswer,
+    // How many bytes of out are to be sent.
     pub written: usize,
     pub session: ServerSession,
 }
