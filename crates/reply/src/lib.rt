@@ -4,7 +4,7 @@ use line_list::LineStep;
 ghost use mathlib.Core.Path.{_≡_};
 ghost use mathlib.Core.Bool.{cond};
 ghost use mathlib.Core.List.{List, [], _∷_, map};
-ghost use Prim.Native.Nat.{ℕ, _≤_};
+ghost use Prim.Native.Nat.{ℕ, _+_, _≤_};
 ghost use lib.ListN.{length};
 ghost use Rattle.wire.specs.Put.{Put};
 ghost use Rattle.group.specs.Group.{got};
@@ -110,4 +110,49 @@ fn put_line_text(
         return put_data(out, start, payload, spaces);
     }
     put_data(out, at, payload, spaces)
+}
+
+fn ending_size(linefeeds: bool) -> usize
+    ensures { λ r. ⌜ r ≡ length (lineEnding linefeeds) ⌝ }
+{
+    if linefeeds {
+        return 2;
+    }
+    1
+}
+
+// A header has five digits and, if spaces are on, two spaces.
+fn header_size(spaces: bool, headers: bool) -> usize
+    ensures { λ r. ⌜ ((l : Line) → r ≡ length (cond headers (header spaces l) [])) ⌝ }
+{
+    if headers {
+        if spaces {
+            return 7;
+        }
+        return 5;
+    }
+    0
+}
+
+// A byte has two digits and, if spaces are on, all but the last have a space.
+fn data_size(payload: &[u8], spaces: bool) -> usize
+    requires { ⌜ length (now payload) ≤ 255 ⌝ }
+    ensures { λ r. ⌜ r ≡ length (dataHex spaces (now (payload .entry))) ⌝ }
+{
+    let n = payload.len();
+    if n == 0 {
+        return 0;
+    }
+    if spaces {
+        return 3 * n - 1;
+    }
+    2 * n
+}
+
+// How long a line is with its ending, whatever its ECU.
+fn line_size(payload: &[u8], linefeeds: bool, spaces: bool, headers: bool) -> usize
+    requires { ⌜ length (now payload) ≤ 255 ⌝ }
+    ensures { λ r. ⌜ ((e : ℕ) → r ≡ length (lineText spaces headers (line e (now (payload .entry)))) + length (lineEnding linefeeds)) ⌝ }
+{
+    header_size(spaces, headers) + data_size(payload, spaces) + ending_size(linefeeds)
 }
