@@ -1,7 +1,7 @@
 -- Laws of a line's text: the id of its ECU, and the digits of its data as a loop writes them.
 use mathlib.Core.Path.{_≡_, refl}
 use mathlib.Core.Bool.{Bool}
-use mathlib.Core.List.{List, [], _++_}
+use mathlib.Core.List.{List, [], _∷_, _++_}
 use Prim.Native.Nat.{ℕ, zero, suc, _+_, _-_, _≤_, _<_}
 use native.Mathlib.Numerals.{add-one}
 use native.Mathlib.Omega.{arith}
@@ -10,6 +10,10 @@ use lib.Seq.{drop-cons}
 use Rattle.wire.specs.Put.{Put}
 use Rattle.wire.proofs.PutLaws.{put-rest, put-nil}
 use Rattle.hex.specs.Digits.{hexByte}
+use Rattle.wire.proofs.Cases.{from-no}
+use Rattle.group.specs.Group.{got}
+use Rattle.group.proofs.GroupLaws.{then-got}
+use Rattle.line_list.specs.Lines.{readLine, readAllLines}
 use Rattle.reply.specs.Reply.{ecuId, spaceIf, furtherHex, dataHex}
 
 -- an ECU that is known
@@ -31,3 +35,13 @@ module _ {out left : List ℕ} {at r : ℕ} (spaces : Bool) (s : List ℕ) (i : 
 
   pub data-end : length s ≤ i → (r ≡ at) × (left ≡ out)
   data-end h = put-nil (rw (drop-of-length-le s h) at p)
+
+-- only an empty list has no lines
+pub no-lines : (n : ℕ) (s rest : List ℕ) → readAllLines n s ≡ got [] rest → length s ≡ 0
+no-lines zero [] rest q = refl
+no-lines (suc n) [] rest q = refl
+no-lines zero (b ∷ s) rest q = from-no cc
+no-lines (suc n) (b ∷ s) rest q =
+    let (l, t, p, k) = then-got (readLine (b ∷ s)) _ [] rest q in
+    let (ms, u, p₂, k₂) = then-got (readAllLines n t) _ [] rest k in
+    from-no cc

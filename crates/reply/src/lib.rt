@@ -156,3 +156,79 @@ fn line_size(payload: &[u8], linefeeds: bool, spaces: bool, headers: bool) -> us
 {
     header_size(spaces, headers) + data_size(payload, spaces) + ending_size(linefeeds)
 }
+
+// How long the reply to a line list is: one walk checks the list and adds up its lines.
+fn reply_size(list: &[u8], linefeeds: bool, spaces: bool, headers: bool) -> ReplySize
+    ensures { λ r. ⌜ sizeAnswer r ≡ replySize linefeeds spaces headers (now (list .entry)) ⌝ }
+{
+    let ending = ending_size(linefeeds);
+    // An empty line and the prompt.
+    let mut size = ending + 1;
+    if list.len() == 0 {
+        // `NO DATA`.
+        return ReplySize::Size(7 + ending + size);
+    }
+    let mut cursor = LineCursor::new();
+    let mut lines: usize = 0;
+    loop {
+        match cursor.step(list) {
+            LineStep::Line {
+                ecu: _,
+                start,
+                next,
+            } => {
+                if lines == 64 {
+                    return ReplySize::Malformed;
+                }
+                let end = next.at;
+                size = size + line_size(&list[start..end], linefeeds, spaces, headers);
+                cursor = next;
+                lines += 1;
+            }
+            LineStep::End => return ReplySize::Size(size),
+            LineStep::Malformed => return ReplySize::Malformed,
+        }
+    }
+}
+
+// The lines of a well-formed list, then the prompt, from the start of out on.
+fn write_lines(list: &[u8], linefeeds: bool, spaces: bool, headers: bool, out: &mut [u8]) -> usize
+    ensures { λ r. ⌜ ((ls : List Line) (rest : List ℕ) → lineList (now (list .entry)) ≡ got ls rest → Put (now (out .entry)) 0 (chipReply linefeeds (map (lineText spaces headers) ls)) r (now (out .exit))) ⌝ }
+{
+    let mut cursor = LineCursor::new();
+    let mut at: usize = 0;
+    loop {
+        match cursor.step(list) {
+            LineStep::Line { ecu, start, next } => {
+                let end = next.at;
+                at = put_line_text(out, at, ecu, &list[start..end], spaces, headers);
+                at = client_state::put_line_ending(out, at, linefeeds);
+                cursor = next;
+            }
+            LineStep::End => return put_prompt(out, at, linefeeds),
+            LineStep::Malformed => return at,
+        }
+    }
+}
+
+// The reply to a line list at the front of out, which is left as it was where it is too small.
+pub fn write_reply(
+    list: &[u8],
+    linefeeds: bool,
+    spaces: bool,
+    headers: bool,
+    out: &mut [u8],
+) -> ReplyAnswer
+    ensures { λ r. ⌜ lent r (now (out .exit)) ≡ replied linefeeds spaces headers (now (list .entry)) (now (out .entry)) ⌝ }
+{
+    let ReplySize::Size(size) = reply_size(list, linefeeds, spaces, headers) else {
+        return ReplyAnswer::Malformed;
+    };
+    if out.len() < size {
+        return ReplyAnswer::SmallBuffer;
+    }
+    if list.len() == 0 {
+        return ReplyAnswer::Written(put_text_reply(out, 0, b"NO DATA", linefeeds));
+    }
+    ReplyAnswer::Written(write_lines(list, linefeeds, spaces, headers, out))
+}
