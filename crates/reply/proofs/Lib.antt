@@ -1,3 +1,4 @@
 pub mod TextLaws
 pub mod SizeLaws
 pub mod WriteLaws
+pub mod AnswerLaws
