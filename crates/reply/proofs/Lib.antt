@@ -1,0 +1,4 @@
+pub mod TextLaws
+pub mod SizeLaws
+pub mod WriteLaws
+pub mod AnswerLaws
