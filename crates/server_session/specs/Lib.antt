@@ -1,2 +1,3 @@
 pub mod Session
 pub mod Bytes
+pub mod Steps
