@@ -4,10 +4,15 @@ mod replies;
 
 use client_state::ClientState;
 ghost use mathlib.Core.Path.{_≡_};
-ghost use lib.ListN.{length};
+ghost use mathlib.Core.Bool.{true, cond};
+ghost use mathlib.Core.List.{[], _∷_};
+ghost use Prim.Native.Nat.{_-_, _≤_};
+ghost use lib.ListN.{length, take};
 ghost use Rattle.wire.specs.Put.{Put};
-ghost use Rattle.server_session.specs.Session.{session, freshSession, lent};
-ghost use Rattle.server_session.specs.Bytes.{isSpace, raised, canonical, byteNumber, byteSays, byteServed, bytesSay};
+ghost use Rattle.wire.specs.Text.{ascii, begins};
+ghost use Rattle.server_session.specs.Session.{session, freshSession, isReading, lent};
+ghost use Rattle.server_session.specs.Bytes.{isSpace, raised, canonical, byteNumber, emptyLine, lineEnd, byteTaken, byteSays, byteAnswer, byteServed};
+ghost use Rattle.server_session.specs.Steps.{Does, numbered, goesOn};
 
 // Whose turn it is.
 pub enum Phase {
@@ -82,6 +87,107 @@ pub struct ReplyStep {
     pub session: ServerSession,
 }
 
+fn is_reading(phase: Phase) -> bool
+    ensures { λ r. ⌜ r ≡ isReading phase ⌝ }
+{
+    match phase {
+        Phase::Reading => true,
+        Phase::AtCommand => false,
+        Phase::ObdCommand => false,
+    }
+}
+
+fn goes_on(answer: ByteAnswer) -> bool
+    ensures { λ r. ⌜ r ≡ goesOn (byteAnswer answer) ⌝ }
+{
+    match answer {
+        ByteAnswer::Taken => true,
+        ByteAnswer::AtCommand => false,
+        ByteAnswer::ObdCommand => false,
+        ByteAnswer::OutOfTurn => false,
+        ByteAnswer::SmallBuffer => false,
+        ByteAnswer::NotAscii => false,
+        ByteAnswer::LineFull => false,
+    }
+}
+
+fn is_space(b: u8) -> bool
+    ensures { λ r. ⌜ r ≡ isSpace b ⌝ }
+{
+    if b < 9 {
+        return false;
+    }
+    if b <= 13 {
+        return true;
+    }
+    b == 32
+}
+
+fn raise(b: u8) -> u8
+    ensures { λ r. ⌜ r ≡ raised b ⌝ }
+{
+    if b < 97 {
+        return b;
+    }
+    if b <= 122 {
+        return b - 32;
+    }
+    b
+}
+
+// How much of a buffer is left from a position on.
+fn room_at(size: usize, at: usize) -> usize
+    ensures { λ r. ⌜ r ≡ size - at ⌝ }
+{
+    if at < size {
+        return size - at;
+    }
+    0
+}
+
+// Makes the first size bytes of a line their command, in place: how many bytes it has.
+fn make_canonical(line: &mut [u8; 128], size: usize) -> usize
+    requires { ⌜ (size ≤ 128) × (length (now line) ≡ 128) ⌝ }
+    ensures { λ r. ⌜ (take r (now (line .exit)) ≡ canonical (take size (now (line .entry)))) × (length (now (line .exit)) ≡ 128) ⌝ }
+{
+    let mut n: usize = 0;
+    let mut i: usize = 0;
+    while i < size {
+        let b = line[i];
+        if is_space(b) {
+            i += 1;
+            continue;
+        }
+        line[n] = raise(b);
+        n += 1;
+        i += 1;
+    }
+    n
+}
+
+// Whether the first n bytes of a line start with AT.
+fn is_at(line: &[u8; 128], n: usize) -> bool
+    ensures { λ r. ⌜ r ≡ begins (take n (now (line .entry))) (ascii "AT") ⌝ }
+{
+    if n < 2 {
+        return false;
+    }
+    if line[0] == b'A' {
+        return line[1] == b'T';
+    }
+    false
+}
+
+// A byte is sent back where echo is on.
+fn put_echo(out: &mut [u8], at: usize, echo: bool, b: u8) -> usize
+    ensures { λ r. ⌜ Put (now (out .entry)) at (cond echo (b ∷ []) []) r (now (out .exit)) ⌝ }
+{
+    if echo {
+        return wire::put_byte(out, at, b);
+    }
+    at
+}
+
 impl ServerSession {
     // A session with fresh settings, that waits for a line.
     pub fn new() -> ServerSession
@@ -93,5 +199,159 @@ impl ServerSession {
             len: 0,
             phase: Phase::Reading,
         }
+    }
+
+    // How many bytes of line are the line as far as it is read, or the command handed out, whatever len holds.
+    pub fn command_size(self) -> usize
+        ensures { λ r. ⌜ r ≡ length (session self .line) ⌝ }
+    {
+        let n = self.len;
+        if n < 128 {
+            return n;
+        }
+        128
+    }
+
+    // The number that a byte gets, or Taken.
+    fn refusal(self, b: u8, room: usize) -> ByteAnswer
+        ensures { λ r. ⌜ byteAnswer r ≡ numbered (byteNumber room (session self) b) ⌝ }
+    {
+        let phase = self.phase;
+        if is_reading(phase) {
+            if room < 8 {
+                return ByteAnswer::SmallBuffer;
+            }
+            if 128 <= b {
+                return ByteAnswer::NotAscii;
+            }
+            if self.command_size() < 128 {
+                return ByteAnswer::Taken;
+            }
+            if b == b'\r' {
+                return ByteAnswer::Taken;
+            }
+            if b == b'\n' {
+                return ByteAnswer::Taken;
+            }
+            return ByteAnswer::LineFull;
+        }
+        ByteAnswer::OutOfTurn
+    }
+
+    // The end of an empty line: the last command is handed out, or `?` is written when there is none.
+    fn end_empty(self, out: &mut [u8], at: usize) -> ByteStep
+        ensures { λ r. ⌜ Does (emptyLine (session self) [] (session self .state .last)) (now (out .entry)) at r (now (out .exit)) ⌝ }
+    {
+        let state = self.state;
+        let size = state.last_size();
+        if size == 0 {
+            let line = self.line;
+            let end = reply::put_text_reply(out, at, b"?", state.linefeeds_enabled);
+            return ByteStep {
+                answer: ByteAnswer::Taken,
+                written: end,
+                session: ServerSession {
+                    state: state,
+                    line: line,
+                    len: 0,
+                    phase: Phase::Reading,
+                },
+            };
+        }
+        let last = state.last_obd_command;
+        ByteStep {
+            answer: ByteAnswer::ObdCommand,
+            written: at,
+            session: ServerSession {
+                state: state,
+                line: last,
+                len: size,
+                phase: Phase::ObdCommand,
+            },
+        }
+    }
+
+    // The end of a line: its command is handed out.
+    fn end_line(self, out: &mut [u8], at: usize) -> ByteStep
+        ensures { λ r. ⌜ Does (lineEnd (session self) [] (canonical (session self .line))) (now (out .entry)) at r (now (out .exit)) ⌝ }
+    {
+        let mut line = self.line;
+        let size = self.command_size();
+        let n = make_canonical(&mut line, size);
+        if n == 0 {
+            return self.end_empty(out, at);
+        }
+        let state = self.state;
+        if is_at(&line, n) {
+            return ByteStep {
+                answer: ByteAnswer::AtCommand,
+                written: at,
+                session: ServerSession {
+                    state: state,
+                    line: line,
+                    len: n,
+                    phase: Phase::AtCommand,
+                },
+            };
+        }
+        ByteStep {
+            answer: ByteAnswer::ObdCommand,
+            written: at,
+            session: ServerSession {
+                state: state,
+                line: line,
+                len: n,
+                phase: Phase::ObdCommand,
+            },
+        }
+    }
+
+    // A byte that gets no number.
+    fn take(mut self, b: u8, out: &mut [u8], at: usize) -> ByteStep
+        requires { ⌜ byteNumber (length (now out) - at) (session self) b ≡ 0 ⌝ }
+        ensures { λ r. ⌜ Does (byteTaken (session self) b) (now (out .entry)) at r (now (out .exit)) ⌝ }
+    {
+        let state = self.state;
+        let end = put_echo(out, at, state.echo_enabled, b);
+        if b == b'\r' {
+            return self.end_line(out, end);
+        }
+        if b == b'\n' {
+            return ByteStep {
+                answer: ByteAnswer::Taken,
+                written: end,
+                session: self,
+            };
+        }
+        let len = self.len;
+        self.line[len] = b;
+        self.len = len + 1;
+        ByteStep {
+            answer: ByteAnswer::Taken,
+            written: end,
+            session: self,
+        }
+    }
+
+    // A byte, with what it sends written from a position on.
+    fn byte_at(self, b: u8, out: &mut [u8], at: usize) -> ByteStep
+        ensures { λ r. ⌜ Does (byteSays (length (now (out .entry)) - at) (session self) b) (now (out .entry)) at r (now (out .exit)) ⌝ }
+    {
+        let answer = self.refusal(b, room_at(out.len(), at));
+        if goes_on(answer) {
+            return self.take(b, out, at);
+        }
+        ByteStep {
+            answer: answer,
+            written: at,
+            session: self,
+        }
+    }
+
+    // One byte from the reader.
+    pub fn byte(self, b: u8, out: &mut [u8]) -> ByteStep
+        ensures { λ r. ⌜ byteServed r (now (out .exit)) ≡ lent (byteSays (length (now (out .entry))) (session self) b) (now (out .entry)) ⌝ }
+    {
+        self.byte_at(b, out, 0)
     }
 }
