@@ -1,3 +1,4 @@
 pub mod LineLaws
 pub mod ByteLaws
 pub mod StepLaws
+pub mod ReplyLaws

@@ -6,13 +6,14 @@ use crate::ServerSession;
 use at_command::AtKind;
 use client_state::ClientState;
 ghost use mathlib.Core.Path.{_≡_};
+ghost use Prim.Native.Nat.{_≤_};
 ghost use lib.ListN.{length};
 ghost use Rattle.wire.specs.Put.{Put};
 ghost use Rattle.client_state.specs.Settings.{settings};
 ghost use Rattle.reply.specs.Shape.{chipReply};
 ghost use Rattle.at_command.specs.Dialect.{kindLines};
 ghost use Rattle.server_session.specs.Session.{session, lent};
-ghost use Rattle.server_session.specs.Replies.{isAt, isObd, answerSays, atAnswered, replyServed};
+ghost use Rattle.server_session.specs.Replies.{isAt, isObd, answerSays, atAnswered, replySays, rejectSays, replyServed};
 
 // Whether an AT command is handed out.
 fn is_at(phase: Phase) -> bool
@@ -75,5 +76,75 @@ fn put_at_answer<'a>(
             reply::put_text_reply(out, 0, text, linefeeds)
         }
         AtKind::Unknown => reply::put_text_reply(out, 0, b"?", linefeeds),
+    }
+}
+
+impl ServerSession {
+    // A number, with the session as it is.
+    fn refused(self, answer: ServerAnswer) -> ReplyStep
+        ensures { λ r. ⌜ r ≡ record { answer = answer; written = 0; session = self } ⌝ }
+    {
+        ReplyStep {
+            answer,
+            written: 0,
+            session: self,
+        }
+    }
+
+    // The session with other settings, when its command has been answered: the next line is read.
+    fn answered(self, state: ClientState, written: usize) -> ReplyStep
+        ensures { λ r. ⌜ r ≡ record { answer = ServerAnswer.Sent; written = written; session = record { state = state; line = self .line; len = 0; phase = Phase.Reading } } ⌝ }
+    {
+        let line = self.line;
+        ReplyStep {
+            answer: ServerAnswer::Sent,
+            written,
+            session: ServerSession {
+                state,
+                line,
+                len: 0,
+                phase: Phase::Reading,
+            },
+        }
+    }
+
+    // The AT command is handled and its answer written.
+    fn answer_at<'a>(self, ati: &'a [u8], device: &'a [u8], out: &mut [u8]) -> ReplyStep
+        requires { ⌜ (length (now ati) ≤ 32) × (length (now device) ≤ 32) × (48 ≤ length (now out)) ⌝ }
+        ensures { λ r. ⌜ replyServed r (now (out .exit)) ≡ lent (atAnswered (session self) (now (ati .entry)) (now (device .entry))) (now (out .entry)) ⌝ }
+    {
+        let size = self.command_size();
+        let line = self.line;
+        let handled = at_command::handle_at_command(self.state, &line[..size]);
+        let state = handled.state;
+        let kind = handled.kind;
+        let written = put_at_answer(out, kind, ati, device, state.linefeeds_enabled);
+        self.answered(state, written)
+    }
+
+    // Answers the AT command that is handed out, with the line ending that is then in force. ati and device are the identity strings for ATI and AT@1.
+    pub fn answer<'a>(self, ati: &'a [u8], device: &'a [u8], out: &mut [u8]) -> ReplyStep
+        ensures { λ r. ⌜ replyServed r (now (out .exit)) ≡ lent (answerSays (length (now (out .entry))) (session self) (now (ati .entry)) (now (device .entry))) (now (out .entry)) ⌝ }
+    {
+        let phase = self.phase;
+        if !is_at(phase) {
+            return self.refused(ServerAnswer::OutOfTurn);
+        }
+        if 32 < ati.len() {
+            return self.refused(ServerAnswer::TooLong);
+        }
+        if 32 < device.len() {
+            return self.refused(ServerAnswer::TooLong);
+        }
+        if wire::has_high(ati) {
+            return self.refused(ServerAnswer::NotAscii);
+        }
+        if wire::has_high(device) {
+            return self.refused(ServerAnswer::NotAscii);
+        }
+        if out.len() < 48 {
+            return self.refused(ServerAnswer::SmallBuffer);
+        }
+        self.answer_at(ati, device, out)
     }
 }
