@@ -1,16 +1,17 @@
 -- The letter after AT decides which texts a command can be; the kinds that the last arm of a match stands for.
 use mathlib.Core.Path.{_≡_, refl, ap, _∙_}
-use mathlib.Core.Bool.{Bool, true, false, cond}
+use mathlib.Core.Bool.{Bool, true, false, cond, and-true}
 use mathlib.Core.List.{List, [], _∷_}
 use Prim.Native.Nat.{ℕ, _≤_, _<_}
 use native.Mathlib.Omega.{arith}
-use lib.ListN.{length, drop, getD, drop-of-length-le}
+use lib.ListN.{length, drop, getD, length-drop, drop-of-length-le}
 use lib.Seq.{drop-cons}
+use lib.Dec.{eqb}
 use borrow.Author.Tests.{ne-eqb}
 use types.Run.{OneOf, miss}
 use denote.Enum.Declared.{tagOf}
-use Rattle.wire.specs.Text.{ascii, begins}
-use Rattle.wire.proofs.TextLaws.{begins-front}
+use Rattle.wire.specs.Text.{ascii, same, begins}
+use Rattle.wire.proofs.TextLaws.{begins-front, same-long}
 use Rattle.client_state.specs.Settings.{Settings}
 use Rattle.at_command.specs.Dialect.{atKind, kindSettings, identityOf}
 use Rattle.at_command.specs.declared.AtKind.{AtKind}
@@ -23,6 +24,13 @@ first t x y e = rw e
 
 pub next : (t : Bool) (x y : AtKind) {z : AtKind} → t ≡ false → z ≡ y → z ≡ cond t x y
 next t x y e p = rw e p
+
+-- what follows AT and a letter is one byte, or not
+pub digit-is : (c : List ℕ) (x : ℕ) → length c ≡ 4 → same (drop 3 c) (x ∷ []) ≡ eqb (getD c 3 0) x
+digit-is c x h = rw (drop-cons c 3 0 (omega arith), drop-of-length-le c {i = 4} (omega arith)) (and-true _)
+
+pub digit-none : (c : List ℕ) (x : ℕ) → (length c ≡ 4 → ⊥) → same (drop 3 c) (x ∷ []) ≡ false
+digit-none c x h = same-long (drop 3 c) (x ∷ []) (λ k. h (omega (arith, length-drop 3 c)))
 
 module _ (c : List ℕ) (e : begins c (ascii "AT") ≡ true) where
   -- AT alone

@@ -1,5 +1,6 @@
 // The AT dialect (handle_at_command of the Rust's server_session.rs).
 ghost use mathlib.Core.Path.{_≡_};
+ghost use lib.ListN.{drop};
 ghost use mathlib.Core.Bool.{true, false, cond};
 ghost use Rattle.wire.specs.Text.{same, begins};
 ghost use Rattle.client_state.specs.Settings.{settings};
@@ -45,17 +46,6 @@ fn one_text(command: &[u8], text: &[u8], kind: AtKind) -> AtKind
     AtKind::Unknown
 }
 
-// One of two texts, matched whole.
-fn two_texts(command: &[u8], text: &[u8], kind: AtKind, text2: &[u8], kind2: AtKind) -> AtKind
-    ensures { λ r. ⌜ r ≡ cond (same (now (command .entry)) (now (text .entry))) kind
-        (cond (same (now (command .entry)) (now (text2 .entry))) kind2 AtKind.Unknown) ⌝ }
-{
-    if wire::same(command, text) {
-        return kind;
-    }
-    one_text(command, text2, kind2)
-}
-
 // A text that the command starts with.
 fn accepted(command: &[u8], text: &[u8]) -> AtKind
     ensures { λ r. ⌜ r ≡ cond (begins (now (command .entry)) (now (text .entry))) AtKind.Accepted AtKind.Unknown ⌝ }
@@ -66,32 +56,21 @@ fn accepted(command: &[u8], text: &[u8]) -> AtKind
     AtKind::Unknown
 }
 
-// ATE0 and ATE1.
-fn ate_kind(command: &[u8]) -> AtKind
-    ensures { λ r. ⌜ r ≡ cond (isText (now (command .entry)) "ATE0") (AtKind.Echo false)
-        (cond (isText (now (command .entry)) "ATE1") (AtKind.Echo true) AtKind.Unknown) ⌝ }
+// A switch: 0 after the letter turns it off, 1 on.
+fn switched(command: &[u8], off: AtKind, on: AtKind) -> AtKind
+    ensures { λ r. ⌜ r ≡ cond (isText (drop 3 (now (command .entry))) "0") off (cond (isText (drop 3 (now (command .entry))) "1") on AtKind.Unknown) ⌝ }
 {
-    two_texts(
-        command,
-        b"ATE0",
-        AtKind::Echo(false),
-        b"ATE1",
-        AtKind::Echo(true),
-    )
-}
-
-// ATL0 and ATL1.
-fn atl_kind(command: &[u8]) -> AtKind
-    ensures { λ r. ⌜ r ≡ cond (isText (now (command .entry)) "ATL0") (AtKind.Linefeeds false)
-        (cond (isText (now (command .entry)) "ATL1") (AtKind.Linefeeds true) AtKind.Unknown) ⌝ }
-{
-    two_texts(
-        command,
-        b"ATL0",
-        AtKind::Linefeeds(false),
-        b"ATL1",
-        AtKind::Linefeeds(true),
-    )
+    if command.len() != 4 {
+        return AtKind::Unknown;
+    }
+    let digit = command[3];
+    if digit == b'0' {
+        return off;
+    }
+    if digit == b'1' {
+        return on;
+    }
+    AtKind::Unknown
 }
 
 // ATS0 and ATS1, or what starts with ATSP or ATST.
@@ -113,32 +92,15 @@ fn ats_kind(command: &[u8]) -> AtKind
     accepted(command, b"ATST")
 }
 
-// ATH0 and ATH1.
-fn ath_kind(command: &[u8]) -> AtKind
-    ensures { λ r. ⌜ r ≡ cond (isText (now (command .entry)) "ATH0") (AtKind.Headers false)
-        (cond (isText (now (command .entry)) "ATH1") (AtKind.Headers true) AtKind.Unknown) ⌝ }
-{
-    two_texts(
-        command,
-        b"ATH0",
-        AtKind::Headers(false),
-        b"ATH1",
-        AtKind::Headers(true),
-    )
-}
-
 // ATDP and ATDPN.
 fn atd_kind(command: &[u8]) -> AtKind
     ensures { λ r. ⌜ r ≡ cond (isText (now (command .entry)) "ATDP") AtKind.Protocol
         (cond (isText (now (command .entry)) "ATDPN") AtKind.ProtocolNumber AtKind.Unknown) ⌝ }
 {
-    two_texts(
-        command,
-        b"ATDP",
-        AtKind::Protocol,
-        b"ATDPN",
-        AtKind::ProtocolNumber,
-    )
+    if wire::same(command, b"ATDP") {
+        return AtKind::Protocol;
+    }
+    one_text(command, b"ATDPN", AtKind::ProtocolNumber)
 }
 
 // What an AT command is. The letter after AT leaves few texts to compare.
@@ -154,10 +116,10 @@ pub fn at_kind(command: &[u8]) -> AtKind
     let letter = command[2];
     match letter {
         b'Z' => one_text(command, b"ATZ", AtKind::Reset),
-        b'E' => ate_kind(command),
-        b'L' => atl_kind(command),
+        b'E' => switched(command, AtKind::Echo(false), AtKind::Echo(true)),
+        b'L' => switched(command, AtKind::Linefeeds(false), AtKind::Linefeeds(true)),
         b'S' => ats_kind(command),
-        b'H' => ath_kind(command),
+        b'H' => switched(command, AtKind::Headers(false), AtKind::Headers(true)),
         b'R' => one_text(command, b"ATRV", AtKind::Voltage),
         b'D' => atd_kind(command),
         b'A' => accepted(command, b"ATAT"),

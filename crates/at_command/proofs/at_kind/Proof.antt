@@ -1,4 +1,4 @@
--- `at_command::at_kind` meets its contract. Past the first two tests a command is AT, a letter and the rest; its arm compares what the letter leaves.
+-- `at_command::at_kind` meets its contract. Past the first two tests a command is AT, a letter and the rest; its arm decides what the letter leaves.
 use mathlib.Core.List.{List, _∷_}
 use mathlib.Core.Path.{_≡_, refl, sym, _∙_}
 use Prim.Native.Nat.{ℕ}
@@ -6,22 +6,20 @@ use lib.ListN.{getD, drop}
 use borrow.Author.Tests.{not-true, not-false}
 use borrow.Author.Needs.{needs}
 use Rattle.at_command.specs.Dialect.{atKind}
-use Rattle.at_command.proofs.Laws.{kind-bare, after-at, no-letter}
 use Rattle.at_command.proofs.KindLaws.{kind-other}
+use Rattle.at_command.proofs.Laws.{kind-bare, after-at, no-letter}
 use Rattle.at_command.proofs.at_kind.Reads as reads
 use Rattle.at_command.proofs.at_kind.Lts as lts
 use Rattle.at_command.proofs.accepted.Reads as accepted-reads
 use Rattle.at_command.proofs.atd_kind.Reads as atd-kind-reads
-use Rattle.at_command.proofs.ate_kind.Reads as ate-kind-reads
-use Rattle.at_command.proofs.ath_kind.Reads as ath-kind-reads
-use Rattle.at_command.proofs.atl_kind.Reads as atl-kind-reads
 use Rattle.at_command.proofs.ats_kind.Reads as ats-kind-reads
 use Rattle.at_command.proofs.one_text.Reads as one-text-reads
+use Rattle.at_command.proofs.switched.Reads as switched-reads
 use Rattle.wire.proofs.begins.Reads as begins-reads
 use Rattle.at_command.proofs.at_kind.Statement.{statement}
 use Rattle.at_command.proofs.at_kind.Tie as tie
 
-module _ (s : lts.After-shared-slice-known2 (begins-reads.Asked, begins-reads.Learnt, one-text-reads.Asked, one-text-reads.Learnt, ate-kind-reads.Asked, ate-kind-reads.Learnt, atl-kind-reads.Asked, atl-kind-reads.Learnt, ats-kind-reads.Asked, ats-kind-reads.Learnt, ath-kind-reads.Asked, ath-kind-reads.Learnt, atd-kind-reads.Asked, atd-kind-reads.Learnt, accepted-reads.Asked, accepted-reads.Learnt) reads.Pre reads.Post) where
+module _ (s : lts.After-shared-slice-known2 (begins-reads.Asked, begins-reads.Learnt, one-text-reads.Asked, one-text-reads.Learnt, switched-reads.Asked, switched-reads.Learnt, ats-kind-reads.Asked, ats-kind-reads.Learnt, atd-kind-reads.Asked, atd-kind-reads.Learnt, accepted-reads.Asked, accepted-reads.Learnt) reads.Pre reads.Post) where
   abbrev text : List ℕ
   text = s .before .before .before .before .before .before .args .command .now
 
@@ -49,17 +47,17 @@ slice-aggregate-one-text c = search needs
 one-text-requires : tie.Need-one-text-requires
 one-text-requires c κs = search needs
 
-ate-kind-requires : tie.Need-ate-kind-requires
-ate-kind-requires c κs = search needs
+switched-requires : tie.Need-switched-requires
+switched-requires c κs = search needs
 
-atl-kind-requires : tie.Need-atl-kind-requires
-atl-kind-requires c κs = search needs
+switched-requires-2 : tie.Need-switched-requires-2
+switched-requires-2 c κs = search needs
 
 ats-kind-requires : tie.Need-ats-kind-requires
 ats-kind-requires c κs = search needs
 
-ath-kind-requires : tie.Need-ath-kind-requires
-ath-kind-requires c κs = search needs
+switched-requires-3 : tie.Need-switched-requires-3
+switched-requires-3 c κs = search needs
 
 slice-aggregate-one-text-2 : tie.Need-slice-aggregate-one-text-2
 slice-aggregate-one-text-2 c = search needs
@@ -94,11 +92,11 @@ returns-3 c = c .one-text .ensures ∙ rw (letter (c .before .before .before) 90
 
 returns-4 : tie.Need-returns-4
 unfolding atKind
-returns-4 c = c .ate-kind .ensures ∙ rw (letter (c .before .before) 69 (c .before .match .keys2))
+returns-4 c = c .switched .ensures ∙ rw (letter (c .before .before) 69 (c .before .match .keys2))
 
 returns-5 : tie.Need-returns-5
 unfolding atKind
-returns-5 c = c .atl-kind .ensures ∙ rw (letter (c .before .before) 76 (c .before .match .keys3))
+returns-5 c = c .switched2 .ensures ∙ rw (letter (c .before .before) 76 (c .before .match .keys3))
 
 returns-6 : tie.Need-returns-6
 unfolding atKind
@@ -106,7 +104,7 @@ returns-6 c = c .ats-kind .ensures ∙ rw (letter (c .before .before) 83 (c .bef
 
 returns-7 : tie.Need-returns-7
 unfolding atKind
-returns-7 c = c .ath-kind .ensures ∙ rw (letter (c .before .before) 72 (c .before .match .keys5))
+returns-7 c = c .switched3 .ensures ∙ rw (letter (c .before .before) 72 (c .before .match .keys5))
 
 returns-8 : tie.Need-returns-8
 unfolding atKind
@@ -142,10 +140,10 @@ at-kind-spec =
     shared-slice-read-letter
     slice-aggregate-one-text
     one-text-requires
-    ate-kind-requires
-    atl-kind-requires
+    switched-requires
+    switched-requires-2
     ats-kind-requires
-    ath-kind-requires
+    switched-requires-3
     slice-aggregate-one-text-2
     one-text-requires-2
     atd-kind-requires
