@@ -2,3 +2,5 @@ pub mod TextLaws
 pub mod SizeLaws
 pub mod WriteLaws
 pub mod AnswerLaws
+pub mod ByteLaws
+pub mod Cards

@@ -46,16 +46,16 @@ enum-known-start : tie.Need-enum-known-start Inv-loop μ-loop
 enum-known-start c = search needs
 
 returns-2 : tie.Need-returns-2 Inv-loop μ-loop
-returns-2 c = sym (size-full _ _ _ _ _ _ _ _ _ _ (step-line _ _ (c .before .before .before .before .step .ensures) (c .before .before .start .given .1)) (c .if2 .taken)) ∙ c .before .before .before .before .before .loop .inv .2
+returns-2 c = let w = step-line _ _ (c .before .before .before .before .step .ensures) (c .before .before .start .given .1) in sym (size-full _ _ _ _ _ _ _ _ _ _ w (c .if2 .taken)) ∙ c .before .before .before .before .before .loop .inv .2
 
 sub-line-size : tie.Need-sub-line-size Inv-loop μ-loop
-sub-line-size c = omega (arith, (step-line _ _ (c .before .before .before .before .step .ensures) (c .before .before .start .given .1)) .ordered)
+sub-line-size c = let w = step-line _ _ (c .before .before .before .before .step .ensures) (c .before .before .start .given .1) in omega arith
 
 part-line-size-start : tie.Need-part-line-size-start Inv-loop μ-loop
-part-line-size-start c = omega (arith, (step-line _ _ (c .before .before .before .before .step .ensures) (c .before .before .start .given .1)) .ordered, (step-line _ _ (c .before .before .before .before .step .ensures) (c .before .before .start .given .1)) .inside)
+part-line-size-start c = let w = step-line _ _ (c .before .before .before .before .step .ensures) (c .before .before .start .given .1) in omega arith
 
 part-line-size-end : tie.Need-part-line-size-end Inv-loop μ-loop
-part-line-size-end c = omega (arith, (step-line _ _ (c .before .before .before .before .step .ensures) (c .before .before .start .given .1)) .ordered, (step-line _ _ (c .before .before .before .before .step .ensures) (c .before .before .start .given .1)) .inside)
+part-line-size-end c = let w = step-line _ _ (c .before .before .before .before .step .ensures) (c .before .before .start .given .1) in omega arith
 
 line-size-requires : tie.Need-line-size-requires Inv-loop μ-loop
 line-size-requires c κs = here-short _ _ _ _ _ (step-line _ _ (c .before .before .before .before .before .step .ensures) (c .before .before .before .start .given .1))

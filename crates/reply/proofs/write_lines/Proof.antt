@@ -35,13 +35,13 @@ enum-known-ecu : tie.Need-enum-known-ecu Inv-loop μ-loop
 enum-known-ecu c = search needs
 
 sub-put-line-text : tie.Need-sub-put-line-text Inv-loop μ-loop
-sub-put-line-text c = omega (arith, (step-line _ _ (c .before .before .before .before .step .ensures) (c .before .before .ecu .given .1)) .ordered)
+sub-put-line-text c = let w = step-line _ _ (c .before .before .before .before .step .ensures) (c .before .before .ecu .given .1) in omega arith
 
 part-put-line-text-start : tie.Need-part-put-line-text-start Inv-loop μ-loop
-part-put-line-text-start c = omega (arith, (step-line _ _ (c .before .before .before .before .step .ensures) (c .before .before .ecu .given .1)) .ordered, (step-line _ _ (c .before .before .before .before .step .ensures) (c .before .before .ecu .given .1)) .inside)
+part-put-line-text-start c = let w = step-line _ _ (c .before .before .before .before .step .ensures) (c .before .before .ecu .given .1) in omega arith
 
 part-put-line-text-end : tie.Need-part-put-line-text-end Inv-loop μ-loop
-part-put-line-text-end c = omega (arith, (step-line _ _ (c .before .before .before .before .step .ensures) (c .before .before .ecu .given .1)) .ordered, (step-line _ _ (c .before .before .before .before .step .ensures) (c .before .before .ecu .given .1)) .inside)
+part-put-line-text-end c = let w = step-line _ _ (c .before .before .before .before .step .ensures) (c .before .before .ecu .given .1) in omega arith
 
 put-line-text-requires : tie.Need-put-line-text-requires Inv-loop μ-loop
 put-line-text-requires c κs = search needs
@@ -50,7 +50,7 @@ put-line-ending-requires : tie.Need-put-line-ending-requires Inv-loop μ-loop
 put-line-ending-requires c κs = search needs
 
 loop-less : tie.Need-loop-less Inv-loop μ-loop
-loop-less c = omega (arith, (step-line _ _ (c .before .before .before .before .before .before .before .before .before .before .before .before .step .ensures) (c .before .before .before .before .before .before .before .before .before .before .ecu .given .1)) .after, (step-line _ _ (c .before .before .before .before .before .before .before .before .before .before .before .before .step .ensures) (c .before .before .before .before .before .before .before .before .before .before .ecu .given .1)) .inside)
+loop-less c = let w = step-line _ _ (c .before .before .before .before .before .before .before .before .before .before .before .before .step .ensures) (c .before .before .before .before .before .before .before .before .before .before .ecu .given .1) in omega arith
 
 loop-again : tie.Need-loop-again Inv-loop μ-loop
 loop-again c = (put-length (c .before .before .put-line-ending .ensures) ∙ put-length (c .before .before .before .before .before .before .put-line-text .ensures) ∙ c .before .before .before .before .before .before .before .before .before .before .before .before .before .loop .inv .0, λ ls rest q. left-next _ _ _ _ _ (c .before .before .before .before .before .before .before .before .before .before .before .before .before .loop .inv .1 ls rest q) _ _ _ (step-line _ _ (c .before .before .before .before .before .before .before .before .before .before .before .before .step .ensures) (c .before .before .before .before .before .before .before .before .before .before .ecu .given .1)) (c .before .before .before .before .before .before .put-line-text .ensures) (c .before .before .put-line-ending .ensures))

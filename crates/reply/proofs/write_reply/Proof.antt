@@ -1,7 +1,6 @@
 -- `reply::write_reply` meets its contract: the size decides, and the text is then written whole.
-use native.Mathlib.Omega.{arith}
 use borrow.Author.Needs.{needs}
-use Rattle.reply.proofs.AnswerLaws.{size-told, size-refused, replied-malformed, replied-small, replied-written, list-none, list-some}
+use Rattle.reply.proofs.AnswerLaws.{answer-malformed, answer-small, answer-none, answer-some}
 use Rattle.reply.proofs.write_reply.Statement.{statement}
 use Rattle.reply.proofs.write_reply.Tie as tie
 
@@ -15,10 +14,10 @@ enum-told : tie.Need-enum-told
 enum-told c = search needs
 
 returns : tie.Need-returns
-returns c = replied-malformed _ _ _ _ _ (size-refused (c .before .before .before .before .before .args .linefeeds) (c .before .before .before .before .before .args .spaces) (c .before .before .before .before .before .args .headers) _ (c .before .before .reply-size .ensures) (c .enum-told .given .1))
+returns c = answer-malformed _ _ _ _ _ (c .before .before .reply-size .ensures) (c .enum-told .given .1)
 
 returns-2 : tie.Need-returns-2
-returns-2 c = let (ls, rest, q, n) = size-told (c .before .before .before .before .before .before .before .args .linefeeds) (c .before .before .before .before .before .before .before .args .spaces) (c .before .before .before .before .before .before .before .args .headers) _ (c .before .before .before .before .reply-size .ensures) (c .before .before .size .given .1) in replied-small _ _ _ _ _ ls rest q (omega (arith, c .if1 .taken))
+returns-2 c = answer-small _ _ _ _ _ (c .before .before .before .before .reply-size .ensures) (c .before .before .size .given .1) (c .if1 .taken)
 
 slice-aggregate-put-text-reply : tie.Need-slice-aggregate-put-text-reply
 slice-aggregate-put-text-reply c = search needs
@@ -30,7 +29,7 @@ same-length : tie.Need-same-length
 same-length c = search needs
 
 returns-3 : tie.Need-returns-3
-returns-3 c = let (ls, rest, q, n) = size-told (c .before .before .before .before .before .before .before .before .before .before .before .before .before .args .linefeeds) (c .before .before .before .before .before .before .before .before .before .before .before .before .before .args .spaces) (c .before .before .before .before .before .before .before .before .before .before .before .before .before .args .headers) _ (c .before .before .before .before .before .before .before .before .before .before .reply-size .ensures) (c .before .before .before .before .before .before .before .before .size .given .1) in replied-written _ _ _ _ _ ls rest q (omega (arith, c .before .before .before .before .before .before .if1 .left)) (rw (list-none (c .before .before .before .before .before .before .before .before .before .before .before .before .before .args .linefeeds) (c .before .before .before .before .before .before .before .before .before .before .before .before .before .args .spaces) (c .before .before .before .before .before .before .before .before .before .before .before .before .before .args .headers) _ (c .before .before .before .before .before .before .before .before .before .before .before .before .before .args .out .now) ls rest q (c .before .before .before .before .before .if2 .taken)) (c .before .before .put-text-reply .ensures))
+returns-3 c = answer-none _ _ _ _ _ (c .before .before .before .before .before .before .before .before .before .before .reply-size .ensures) (c .before .before .before .before .before .before .before .before .size .given .1) (c .before .before .before .before .before .before .if1 .left) (c .before .before .before .before .before .if2 .taken) (c .before .before .put-text-reply .ensures)
 
 write-lines-requires : tie.Need-write-lines-requires
 write-lines-requires c κs = search needs
@@ -39,7 +38,7 @@ same-length-2 : tie.Need-same-length-2
 same-length-2 c = search needs
 
 returns-4 : tie.Need-returns-4
-returns-4 c = let (ls, rest, q, n) = size-told (c .before .before .before .before .before .before .before .before .before .before .before .before .args .linefeeds) (c .before .before .before .before .before .before .before .before .before .before .before .before .args .spaces) (c .before .before .before .before .before .before .before .before .before .before .before .before .args .headers) _ (c .before .before .before .before .before .before .before .before .before .reply-size .ensures) (c .before .before .before .before .before .before .before .size .given .1) in replied-written _ _ _ _ _ ls rest q (omega (arith, c .before .before .before .before .before .if1 .left)) (rw (list-some (c .before .before .before .before .before .before .before .before .before .before .before .before .args .linefeeds) (c .before .before .before .before .before .before .before .before .before .before .before .before .args .spaces) (c .before .before .before .before .before .before .before .before .before .before .before .before .args .headers) _ (c .before .before .before .before .before .before .before .before .before .before .before .before .args .out .now) ls rest q (c .before .before .before .before .if2 .left)) (c .before .before .write-lines .ensures ls rest q))
+returns-4 c = answer-some _ _ _ _ _ (c .before .before .before .before .before .before .before .before .before .reply-size .ensures) (c .before .before .before .before .before .before .before .size .given .1) (c .before .before .before .before .before .if1 .left) (c .before .before .before .before .if2 .left) (c .before .before .write-lines .ensures)
 
 pub write-reply-spec : {M : Type 1} → statement M
 write-reply-spec =
