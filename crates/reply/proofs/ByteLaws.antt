@@ -11,7 +11,7 @@ use Rattle.wire.proofs.TextLaws.{any-append}
 use Rattle.client_state.specs.Settings.{lineEnding}
 use Rattle.hex.specs.Digits.{hexDigit, hexByte, hexId}
 use Rattle.hex.proofs.All.{All, all-append}
-use Rattle.hex.proofs.DigitLaws.{digit-low, digit-high, digits-all}
+use Rattle.hex.proofs.DigitLaws.{digit-between, digits-all}
 use Rattle.line_list.specs.Lines.{Line}
 use Rattle.reply.specs.Shape.{chipReply}
 use Rattle.reply.specs.Reply.{ecuId, spaceIf, furtherHex, dataHex, header, lineText, replyLines, replyText}
@@ -76,7 +76,7 @@ module _ (P : ℕ → Type 0) (digit : (d : ℕ) → d < 16 → P (hexDigit d)) 
 
 -- without spaces a line is capital hex digits alone
 pub line-digits : (headers : Bool) (l : Line) → All (λ c. (48 ≤ c) × (c ≤ 70)) (lineText false headers l)
-line-digits headers l = line-all (λ c. (48 ≤ c) × (c ≤ 70)) (λ d h. (digit-low d h, digit-high d h)) false tt headers l
+line-digits headers l = line-all (λ c. (48 ≤ c) × (c ≤ 70)) digit-between false tt headers l
 
 -- A test that no digit passes, nor a space, CR, LF or a letter of `NO DATA`: nothing before the prompt passes it.
 module _ (f : ℕ → Bool) where

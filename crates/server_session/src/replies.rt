@@ -5,7 +5,9 @@ use crate::ServerAnswer;
 use crate::ServerSession;
 use at_command::AtKind;
 use client_state::ClientState;
+use reply::ReplyAnswer;
 ghost use mathlib.Core.Path.{_≡_};
+ghost use mathlib.Core.List.{[], _∷_};
 ghost use Prim.Native.Nat.{_≤_};
 ghost use lib.ListN.{length};
 ghost use Rattle.wire.specs.Put.{Put};
@@ -79,6 +81,16 @@ fn put_at_answer<'a>(
     }
 }
 
+// How long a reply of one line is.
+fn text_reply_size(text: &[u8], linefeeds: bool) -> usize
+    ensures { λ r. ⌜ r ≡ length (chipReply linefeeds (now (text .entry) ∷ [])) ⌝ }
+{
+    if linefeeds {
+        return text.len() + 5;
+    }
+    text.len() + 3
+}
+
 impl ServerSession {
     // A number, with the session as it is.
     fn refused(self, answer: ServerAnswer) -> ReplyStep
@@ -146,5 +158,58 @@ impl ServerSession {
             return self.refused(ServerAnswer::SmallBuffer);
         }
         self.answer_at(ati, device, out)
+    }
+
+    // Replies to the OBD command that is handed out with a line list, in the reader's settings. It becomes the last command, unless there are no lines.
+    pub fn reply(self, list: &[u8], out: &mut [u8]) -> ReplyStep
+        ensures { λ r. ⌜ replyServed r (now (out .exit)) ≡ lent (replySays (length (now (out .entry))) (session self) (now (list .entry))) (now (out .entry)) ⌝ }
+    {
+        let phase = self.phase;
+        if !is_obd(phase) {
+            return self.refused(ServerAnswer::OutOfTurn);
+        }
+        let state = self.state;
+        let answer = reply::write_reply(
+            list,
+            state.linefeeds_enabled,
+            state.spaces_enabled,
+            state.headers_enabled,
+            out,
+        );
+        match answer {
+            ReplyAnswer::Malformed => self.refused(ServerAnswer::Malformed),
+            ReplyAnswer::SmallBuffer => self.refused(ServerAnswer::SmallBuffer),
+            ReplyAnswer::Written(written) => {
+                if list.len() == 0 {
+                    return self.answered(state, written);
+                }
+                let size = self.command_size();
+                let line = self.line;
+                self.answered(state.with_last(&line[..size]), written)
+            }
+        }
+    }
+
+    // Rejects the OBD command that is handed out with a line of text, as `?` or UNABLE TO CONNECT.
+    pub fn reject(self, text: &[u8], out: &mut [u8]) -> ReplyStep
+        ensures { λ r. ⌜ replyServed r (now (out .exit)) ≡ lent (rejectSays (length (now (out .entry))) (session self) (now (text .entry))) (now (out .entry)) ⌝ }
+    {
+        let phase = self.phase;
+        if !is_obd(phase) {
+            return self.refused(ServerAnswer::OutOfTurn);
+        }
+        if 64 < text.len() {
+            return self.refused(ServerAnswer::TooLong);
+        }
+        if wire::has_high(text) {
+            return self.refused(ServerAnswer::NotAscii);
+        }
+        let state = self.state;
+        let linefeeds = state.linefeeds_enabled;
+        if out.len() < text_reply_size(text, linefeeds) {
+            return self.refused(ServerAnswer::SmallBuffer);
+        }
+        let written = reply::put_text_reply(out, 0, text, linefeeds);
+        self.answered(state, written)
     }
 }
