@@ -45,7 +45,7 @@ pub record Open (room : ℕ) (s : Session) (b : ℕ) : Type 0 where
   pub low : b < 128
   pub short : (b ≡ 13 → ⊥) → (b ≡ 10 → ⊥) → length (s .line) < 128
 
-reading : (p : Phase) → isReading p ≡ true → p ≡ Reading
+pub reading : (p : Phase) → isReading p ≡ true → p ≡ Reading
 reading Reading e = refl
 reading AtCommand e = from-no cc
 reading ObdCommand e = from-no cc

@@ -6,13 +6,14 @@ use client_state::ClientState;
 ghost use mathlib.Core.Path.{_≡_};
 ghost use mathlib.Core.Bool.{true, cond};
 ghost use mathlib.Core.List.{[], _∷_};
-ghost use Prim.Native.Nat.{_-_, _≤_};
+ghost use Prim.Native.Nat.{_+_, _-_, _≤_, min};
 ghost use lib.ListN.{length, take};
+ghost use Rattle.wire.specs.Answer.{result};
 ghost use Rattle.wire.specs.Put.{Put};
 ghost use Rattle.wire.specs.Text.{ascii, begins};
 ghost use Rattle.server_session.specs.Session.{session, freshSession, isReading, lent};
-ghost use Rattle.server_session.specs.Bytes.{isSpace, raised, canonical, byteNumber, emptyLine, lineEnd, byteTaken, byteSays, byteAnswer, byteServed};
-ghost use Rattle.server_session.specs.Steps.{Does, numbered, goesOn};
+ghost use Rattle.server_session.specs.Bytes.{isSpace, raised, canonical, byteNumber, emptyLine, lineEnd, byteTaken, byteSays, byteAnswer, byteServed, bytesSay, bytesServed, lentBytes};
+ghost use Rattle.server_session.specs.Steps.{Does, numbered, goesOn, counted, isSpecial, RunFits, Ran};
 
 // Whose turn it is.
 pub enum Phase {
@@ -87,6 +88,12 @@ pub struct ReplyStep {
     pub session: ServerSession,
 }
 
+// A run of bytes that joined the line: how many, and the position in out after what they sent back.
+struct Run {
+    count: usize,
+    at: usize,
+}
+
 fn is_reading(phase: Phase) -> bool
     ensures { λ r. ⌜ r ≡ isReading phase ⌝ }
 {
@@ -94,6 +101,17 @@ fn is_reading(phase: Phase) -> bool
         Phase::Reading => true,
         Phase::AtCommand => false,
         Phase::ObdCommand => false,
+    }
+}
+
+// The answer to no byte at all.
+fn phase_answer(phase: Phase) -> ByteAnswer
+    ensures { λ r. ⌜ byteAnswer r ≡ result phase ⌝ }
+{
+    match phase {
+        Phase::Reading => ByteAnswer::Taken,
+        Phase::AtCommand => ByteAnswer::AtCommand,
+        Phase::ObdCommand => ByteAnswer::ObdCommand,
     }
 }
 
@@ -108,6 +126,21 @@ fn goes_on(answer: ByteAnswer) -> bool
         ByteAnswer::SmallBuffer => false,
         ByteAnswer::NotAscii => false,
         ByteAnswer::LineFull => false,
+    }
+}
+
+// How many bytes were taken, by the answer to one.
+fn counts(answer: ByteAnswer) -> usize
+    ensures { λ r. ⌜ r ≡ counted (byteAnswer answer) ⌝ }
+{
+    match answer {
+        ByteAnswer::Taken => 1,
+        ByteAnswer::AtCommand => 1,
+        ByteAnswer::ObdCommand => 1,
+        ByteAnswer::OutOfTurn => 0,
+        ByteAnswer::SmallBuffer => 0,
+        ByteAnswer::NotAscii => 0,
+        ByteAnswer::LineFull => 0,
     }
 }
 
@@ -131,6 +164,28 @@ fn raise(b: u8) -> u8
     }
     if b <= 122 {
         return b - 32;
+    }
+    b
+}
+
+fn is_special(b: u8) -> bool
+    ensures { λ r. ⌜ r ≡ isSpecial b ⌝ }
+{
+    if 128 <= b {
+        return true;
+    }
+    if b == b'\r' {
+        return true;
+    }
+    b == b'\n'
+}
+
+// The lesser of two counts.
+fn lesser(a: usize, b: usize) -> usize
+    ensures { λ r. ⌜ r ≡ min a b ⌝ }
+{
+    if a < b {
+        return a;
     }
     b
 }
@@ -186,6 +241,34 @@ fn put_echo(out: &mut [u8], at: usize, echo: bool, b: u8) -> usize
         return wire::put_byte(out, at, b);
     }
     at
+}
+
+// Lets bytes of the input from i on join the line and sends them back, up to the first special one, at most most of them.
+fn join_run(
+    line: &mut [u8; 128],
+    len: usize,
+    input: &[u8],
+    i: usize,
+    out: &mut [u8],
+    at: usize,
+    echo: bool,
+    most: usize,
+) -> Run
+    requires { ⌜ (len + most ≤ 128) × (length (now line) ≡ 128) × (i + most ≤ length (now input)) ⌝ }
+    ensures { λ r. ⌜ Ran (now (line .entry)) len (now (input .entry)) i (now (out .entry)) at echo most r (now (line .exit)) (now (out .exit)) ⌝ }
+{
+    let mut n: usize = 0;
+    let mut end = at;
+    while n < most {
+        let b = input[i + n];
+        if is_special(b) {
+            return Run { count: n, at: end };
+        }
+        line[len + n] = b;
+        end = put_echo(out, end, echo, b);
+        n += 1;
+    }
+    Run { count: n, at: end }
 }
 
 impl ServerSession {
@@ -353,5 +436,75 @@ impl ServerSession {
         ensures { λ r. ⌜ byteServed r (now (out .exit)) ≡ lent (byteSays (length (now (out .entry))) (session self) b) (now (out .entry)) ⌝ }
     {
         self.byte_at(b, out, 0)
+    }
+
+    // How many bytes may join the line as a run, if none of them is special.
+    fn run_room(self, left: usize, room: usize) -> usize
+        ensures { λ r. ⌜ RunFits (session self) left room r ⌝ }
+    {
+        let phase = self.phase;
+        if is_reading(phase) {
+            if room < 8 {
+                return 0;
+            }
+            let state = self.state;
+            let most = lesser(left, 128 - self.command_size());
+            if state.echo_enabled {
+                return lesser(most, room - 8);
+            }
+            return most;
+        }
+        0
+    }
+
+    // Bytes from the reader, one after the other: it stops after the one that hands a command out, or before the one that gets a number. A run of bytes that
+    // just join the line is taken without a call for each.
+    pub fn bytes(self, input: &[u8], out: &mut [u8]) -> BytesStep
+        ensures { λ r. ⌜ bytesServed r (now (out .exit)) ≡ lentBytes (bytesSay (length (now (out .entry))) (session self) (now (input .entry))) (now (out .entry)) ⌝ }
+    {
+        let mut session = self;
+        let mut i: usize = 0;
+        let mut at: usize = 0;
+        loop {
+            let state = session.state;
+            let most = session.run_room(room_at(input.len(), i), room_at(out.len(), at));
+            let len = session.command_size();
+            let ran = join_run(
+                &mut session.line,
+                len,
+                input,
+                i,
+                out,
+                at,
+                state.echo_enabled,
+                most,
+            );
+            session.len = len + ran.count;
+            i = i + ran.count;
+            at = ran.at;
+            if input.len() <= i {
+                let phase = session.phase;
+                return BytesStep {
+                    answer: phase_answer(phase),
+                    taken: i,
+                    written: at,
+                    session: session,
+                };
+            }
+            let step = session.byte_at(input[i], out, at);
+            let answer = step.answer;
+            session = step.session;
+            at = step.written;
+            i = i + counts(answer);
+            if goes_on(answer) {
+                continue;
+            }
+            return BytesStep {
+                answer: answer,
+                taken: i,
+                written: at,
+                session: session,
+            };
+        }
     }
 }
