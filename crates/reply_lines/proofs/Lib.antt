@@ -1,2 +1,3 @@
 pub mod ScanLaws
 pub mod TurnLaws
+pub mod LineLaws

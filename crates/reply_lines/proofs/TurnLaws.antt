@@ -81,7 +81,7 @@ trimmed-short s = omega (arith, ap length (end-part (trimStart s)), length-take 
 abbrev pub part : List ℕ → ℕ → ℕ → List ℕ
 part s start end = take (end - start) (drop start s)
 
-pub trimmed-part : (reply : List ℕ) (at cr : ℕ) → length (part reply at cr) ≡ cr - at →
+trimmed-part : (reply : List ℕ) (at cr : ℕ) → length (part reply at cr) ≡ cr - at →
     trimmed (part reply at cr) ≡ part reply (textStart at (part reply at cr)) (textStart at (part reply at cr) + length (trimmed (part reply at cr)))
 trimmed-part reply at cr h =
     let l = part reply at cr in
@@ -125,7 +125,7 @@ module _ (reply : List ℕ) (at cr : ℕ) (h : at < length reply) (hc : cr ≡ a
     rest-end k = drop-of-length-le reply {i = next} (omega (arith, hn))
 
     -- the lines from here on
-    pub text-turn : textLines (drop at reply) ≡ cond (stays (trimmed (part reply at cr))) (trimmed (part reply at cr) ∷ textLines (drop next reply)) (textLines (drop next reply))
+    text-turn : textLines (drop at reply) ≡ cond (stays (trimmed (part reply at cr))) (trimmed (part reply at cr) ∷ textLines (drop next reply)) (textLines (drop next reply))
     unfolding textLines
     text-turn =
         by-test (ltb cr (length reply))
@@ -133,7 +133,7 @@ module _ (reply : List ℕ) (at cr : ℕ) (h : at < length reply) (hc : cr ≡ a
         (λ e. let k = ltb-false cr (length reply) e in rw (split-end k, rest-end k))
 
     -- the next line that stays
-    pub from-turn : lineFrom reply at ≡
+    from-turn : lineFrom reply at ≡
         cond (stays (trimmed (part reply at cr)))
         (some (textStart at (part reply at cr) ∷ (textStart at (part reply at cr) + length (trimmed (part reply at cr))) ∷ next ∷ []))
         (lineFrom reply next)
@@ -154,13 +154,23 @@ module _ (reply : List ℕ) (at cr : ℕ) (h : at < length reply) (hc : cr ≡ a
       is-trimmed : t ≡ trimmed (part reply at cr)
       is-trimmed = he ∙ ap trimEnd ht
 
-      pub end-inside : cr - length text + length t ≤ length reply
-      end-inside = omega (arith, ap length ht, ap length is-trimmed, trimmed-short (part reply at cr), text-fits text ht, cr-inside)
+      text-start : textStart at (part reply at cr) ≡ cr - length text
+      text-start = omega (arith, ap length ht, text-fits text ht, line-length, hc)
+
+      pub end-fits : cr - length text + length t ≤ cr
+      end-fits = omega (arith, ap length ht, ap length is-trimmed, trimmed-short (part reply at cr), text-fits text ht)
+
+      pub text-part : part reply (cr - length text) (cr - length text + length t) ≡ t
+      text-part = sym (is-trimmed ∙ rw (← text-start, is-trimmed) (trimmed-part reply at cr line-length))
+
+      pub text-line : stays t ≡ true → textLines (drop at reply) ≡ t ∷ textLines (drop next reply)
+      text-line e = text-turn ∙ rw (← is-trimmed, e)
+
+      pub text-skip : stays t ≡ false → textLines (drop at reply) ≡ textLines (drop next reply)
+      text-skip e = text-turn ∙ rw (← is-trimmed, e)
 
       pub from-line : stays t ≡ true → lineFrom reply at ≡ some ((cr - length text) ∷ (cr - length text + length t) ∷ next ∷ [])
-      from-line e =
-          let start : textStart at (part reply at cr) ≡ cr - length text = omega (arith, ap length ht, text-fits text ht, line-length, hc) in
-          from-turn ∙ rw (← is-trimmed, e, start)
+      from-line e = from-turn ∙ rw (← is-trimmed, e, text-start)
 
       pub from-skip : stays t ≡ false → lineFrom reply at ≡ lineFrom reply next
       from-skip e = from-turn ∙ rw (← is-trimmed, e)

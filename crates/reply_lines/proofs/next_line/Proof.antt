@@ -4,7 +4,7 @@ use Prim.Native.Nat.{_-_}
 use native.Mathlib.Omega.{arith}
 use lib.ListN.{length}
 use borrow.Author.Needs.{needs}
-use Rattle.reply_lines.proofs.TurnLaws.{cr-inside, next-after, text-fits, from-line, from-skip, from-end, end-inside}
+use Rattle.reply_lines.proofs.TurnLaws.{cr-inside, next-after, text-fits, from-line, from-skip, from-end, end-fits}
 use Rattle.reply_lines.specs.Answers.{lineFrom}
 use Rattle.reply_lines.proofs.next_line.Statement.{statement}
 use Rattle.reply_lines.proofs.next_line.Tie as tie
@@ -46,7 +46,7 @@ stays-requires : tie.Need-stays-requires Inv-loop μ-loop
 stays-requires c κs = search needs
 
 add-t16 : tie.Need-add-t16 Inv-loop μ-loop
-add-t16 c = record { fits = omega (arith, end-inside _ _ _ (c .before .before .before .before .before .before .before .loop-test .taken) (c .before .before .before .before .before .before .find-cr .ensures) _ (c .before .before .before .before .before .past-cr .ensures) _ (c .before .before .before .trim-start .ensures) _ (c .before .before .trim-end .ensures)) }
+add-t16 c = record { fits = omega (arith, end-fits _ _ _ (c .before .before .before .before .before .before .before .loop-test .taken) (c .before .before .before .before .before .before .find-cr .ensures) _ (c .before .before .before .before .before .past-cr .ensures) _ (c .before .before .before .trim-start .ensures) _ (c .before .before .trim-end .ensures), cr-inside _ _ _ (c .before .before .before .before .before .before .before .loop-test .taken) (c .before .before .before .before .before .before .find-cr .ensures)) }
 
 returns : tie.Need-returns Inv-loop μ-loop
 returns c = sym (from-line _ _ _ (c .before .before .before .before .before .before .before .loop-test .taken) (c .before .before .before .before .before .before .find-cr .ensures) _ (c .before .before .before .before .before .past-cr .ensures) _ (c .before .before .before .trim-start .ensures) _ (c .before .before .trim-end .ensures) (sym (c .before .stays .ensures) ∙ c .if1 .taken)) ∙ c .before .before .before .before .before .before .before .before .loop .inv
