@@ -9,8 +9,8 @@ use lib.ListN.{length, take, drop, getD, length-drop, drop-of-length-le}
 use lib.Seq.{drop-cons, take-suc, take-all}
 use borrow.Author.Tests.{eq-eqb, ne-eqb}
 use Rattle.wire.specs.Text.{has, isSpace}
-use Rattle.reply_lines.specs.Lines.{trimStart, before, trimEnd, stays}
-use Rattle.reply_lines.specs.Steps.{toCR}
+use Rattle.reply_lines.specs.Lines.{trimStart, before, trimEnd, stays, unspaced}
+use Rattle.reply_lines.specs.Steps.{toCR, CharAt}
 
 -- a part to the end of a slice
 pub part-all : (s : List ℕ) (i : ℕ) → take (length s - i) (drop i s) ≡ drop i s
@@ -43,12 +43,29 @@ module _ (s : List ℕ) (i : ℕ) (h : i < length s) where
   pub start-stop : isSpace (getD s i 0) ≡ false → trimStart (drop i s) ≡ drop i s
   start-stop e = rw (drop-cons s i 0 h, e)
 
+  pub space-here : getD s i 0 ≡ 32 → unspaced (drop i s) ≡ unspaced (drop (i + 1) s)
+  space-here e = rw (add-one, drop-cons s i 0 h, eq-eqb (getD s i 0) 32 e)
+
+  char-here : (getD s i 0 ≡ 32 → ⊥) → unspaced (drop i s) ≡ getD s i 0 ∷ unspaced (drop (i + 1) s)
+  char-here n = rw (add-one, drop-cons s i 0 h, ne-eqb (getD s i 0) 32 n)
+
 pub cr-end : (s : List ℕ) (i : ℕ) → length s ≤ i → toCR (drop i s) ≡ 0
 unfolding toCR
 cr-end s i h = rw (drop-of-length-le s h)
 
 pub start-end : (s : List ℕ) (i : ℕ) → length s ≤ i → trimStart (drop i s) ≡ []
 start-end s i h = rw (drop-of-length-le s h)
+
+pub unspaced-end : (s : List ℕ) (i : ℕ) → length s ≤ i → unspaced (drop i s) ≡ []
+unspaced-end s i h = rw (drop-of-length-le s h)
+
+-- ---- the next character
+
+pub char-at : (s : List ℕ) (at r : ℕ) → CharAt s at r → r < length s → unspaced (drop at s) ≡ getD s r 0 ∷ unspaced (drop (r + 1) s)
+char-at s at r p h = sym (p .reads) ∙ char-here s r h (p .char h)
+
+pub char-none : (s : List ℕ) (at r : ℕ) → CharAt s at r → length s ≤ r → unspaced (drop at s) ≡ []
+char-none s at r p h = sym (p .reads) ∙ unspaced-end s r h
 
 -- ---- down from position e
 
