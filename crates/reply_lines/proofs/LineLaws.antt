@@ -1,6 +1,6 @@
 -- What a step over the lines of a reply says: a walk by `next_line` keeps the lines that are left.
 use mathlib.Core.Path.{_≡_, refl, sym, ap, _∙_}
-use mathlib.Core.Bool.{Bool, true, false}
+use mathlib.Core.Bool.{Bool}
 use mathlib.Core.List.{List, [], _∷_, map}
 use mathlib.Core.Option.{Option, none, some}
 use Prim.Native.Nat.{ℕ, zero, suc, _+_, _-_, _≤_, _<_, min}
@@ -9,7 +9,6 @@ use lib.Dec.{ltb}
 use lib.ListN.{length, take, drop, getD}
 use borrow.Author.Tests.{ltb-true, ltb-false}
 use Rattle.wire.proofs.Cases.{by-test}
-use Rattle.line_list.specs.Lines.{Line}
 use Rattle.reply_lines.specs.Lines.{trimStart, trimmed, stays, textLines}
 use Rattle.reply_lines.specs.Decode.{textLine, replyLines}
 use Rattle.reply_lines.specs.Answers.{lineStep, lineFrom}
