@@ -3,4 +3,3 @@ pub mod SizeLaws
 pub mod WriteLaws
 pub mod AnswerLaws
 pub mod ByteLaws
-pub mod Cards

@@ -9,7 +9,8 @@ use lib.Dec.{eqb}
 use lib.ListN.{length, take, drop, getD, set, length-take, drop-of-length-le}
 use lib.Seq.{drop-cons, getD-take, take-suc-set, take-set-lt, drop-set-lt}
 use Rattle.wire.specs.Text.{ascii, begins}
-use Rattle.server_session.specs.Bytes.{isSpace, raised, canonical}
+use Rattle.wire.specs.Text.{isSpace, raised}
+use Rattle.server_session.specs.Bytes.{canonical}
 
 canonical-space : (l : List ℕ) (i : ℕ) → i < length l → isSpace (getD l i 0) ≡ true → canonical (drop i l) ≡ canonical (drop (i + 1) l)
 unfolding canonical

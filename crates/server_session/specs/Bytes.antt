@@ -8,7 +8,7 @@ use lib.Dec.{eqb, ltb, leb}
 use lib.ListN.{length}
 use lib.Seq.{sets}
 use Rattle.wire.specs.Answer.{Answer, result, refused}
-use Rattle.wire.specs.Text.{ascii, begins}
+use Rattle.wire.specs.Text.{ascii, begins, isSpace, raised}
 use Rattle.client_state.specs.Settings.{Settings}
 use Rattle.reply.specs.Shape.{chipReply}
 use Rattle.server_session.specs.declared.Phase.{Phase}
@@ -18,14 +18,6 @@ use Rattle.server_session.specs.declared.ByteAnswer.the-variants as answ
 use Rattle.server_session.specs.declared.ByteStep.{ByteStep}
 use Rattle.server_session.specs.declared.BytesStep.{BytesStep}
 use Rattle.server_session.specs.Session.{Session, session, isReading, Said, saying, refusing, Served}
-
--- 09 to 0D and 20
-unfoldable pub isSpace : ℕ → Bool
-isSpace b = (leb 9 b && leb b 13) || eqb b 32
-
--- a to z raised
-unfoldable pub raised : ℕ → ℕ
-raised b = cond (leb 97 b && leb b 122) (b - 32) b
 
 -- the command of a line
 unfoldable pub canonical : List ℕ → List ℕ

@@ -12,7 +12,7 @@ ghost use Rattle.wire.specs.Answer.{result};
 ghost use Rattle.wire.specs.Put.{Put};
 ghost use Rattle.wire.specs.Text.{ascii, begins};
 ghost use Rattle.server_session.specs.Session.{session, freshSession, isReading, lent};
-ghost use Rattle.server_session.specs.Bytes.{isSpace, raised, canonical, byteNumber, emptyLine, lineEnd, byteTaken, byteSays, byteAnswer, byteServed, bytesSay, bytesServed, lentBytes};
+ghost use Rattle.server_session.specs.Bytes.{canonical, byteNumber, emptyLine, lineEnd, byteTaken, byteSays, byteAnswer, byteServed, bytesSay, bytesServed, lentBytes};
 ghost use Rattle.server_session.specs.Steps.{Does, numbered, goesOn, counted, isSpecial, RunFits, Ran};
 
 // Whose turn it is.
@@ -144,30 +144,6 @@ fn counts(answer: ByteAnswer) -> usize
     }
 }
 
-fn is_space(b: u8) -> bool
-    ensures { λ r. ⌜ r ≡ isSpace b ⌝ }
-{
-    if b < 9 {
-        return false;
-    }
-    if b <= 13 {
-        return true;
-    }
-    b == 32
-}
-
-fn raise(b: u8) -> u8
-    ensures { λ r. ⌜ r ≡ raised b ⌝ }
-{
-    if b < 97 {
-        return b;
-    }
-    if b <= 122 {
-        return b - 32;
-    }
-    b
-}
-
 fn is_special(b: u8) -> bool
     ensures { λ r. ⌜ r ≡ isSpecial b ⌝ }
 {
@@ -209,11 +185,11 @@ fn make_canonical(line: &mut [u8; 128], size: usize) -> usize
     let mut i: usize = 0;
     while i < size {
         let b = line[i];
-        if is_space(b) {
+        if wire::is_space(b) {
             i += 1;
             continue;
         }
-        line[n] = raise(b);
+        line[n] = wire::raise(b);
         n += 1;
         i += 1;
     }
