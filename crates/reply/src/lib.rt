@@ -34,17 +34,17 @@ pub enum ReplySize {
 pub fn put_prompt(out: &mut [u8], at: usize, linefeeds: bool) -> usize
     ensures { λ r. ⌜ Put (now (out .entry)) at (chipReply linefeeds []) r (now (out .exit)) ⌝ }
 {
-    let at = client_state::put_line_ending(out, at, linefeeds);
-    wire::put_byte(out, at, b'>')
+    let next = client_state::put_line_ending(out, at, linefeeds);
+    wire::put_byte(out, next, b'>')
 }
 
 // A reply of one line.
 pub fn put_text_reply(out: &mut [u8], at: usize, text: &[u8], linefeeds: bool) -> usize
     ensures { λ r. ⌜ Put (now (out .entry)) at (chipReply linefeeds (now (text .entry) ∷ [])) r (now (out .exit)) ⌝ }
 {
-    let at = wire::put(out, at, text);
-    let at = client_state::put_line_ending(out, at, linefeeds);
-    put_prompt(out, at, linefeeds)
+    let end = wire::put(out, at, text);
+    let next = client_state::put_line_ending(out, end, linefeeds);
+    put_prompt(out, next, linefeeds)
 }
 
 // The space that follows the parts of a header and separates bytes, if spaces are on.
@@ -227,8 +227,8 @@ pub fn write_reply(
     if out.len() < size {
         return ReplyAnswer::SmallBuffer;
     }
-    if list.len() == 0 {
-        return ReplyAnswer::Written(put_text_reply(out, 0, b"NO DATA", linefeeds));
+    if 0 < list.len() {
+        return ReplyAnswer::Written(write_lines(list, linefeeds, spaces, headers, out));
     }
-    ReplyAnswer::Written(write_lines(list, linefeeds, spaces, headers, out))
+    ReplyAnswer::Written(put_text_reply(out, 0, b"NO DATA", linefeeds))
 }
