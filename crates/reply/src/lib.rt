@@ -23,7 +23,7 @@ pub enum ReplyAnswer {
     SmallBuffer,
 }
 
-pub enum ReplySize {
+enum ReplySize {
     // The reply has so many bytes.
     Size(usize),
     // 5: not a line list.
@@ -67,7 +67,7 @@ fn ecu_id(ecu: u16) -> u16
     ecu - 1
 }
 
-// The header of a line: its ECU and how many bytes it has, in two digits.
+// The header of a line: its ECU, and how many bytes it has (255 at most) in two digits.
 fn put_header(out: &mut [u8], at: usize, ecu: u16, payload: &[u8], spaces: bool) -> usize
     ensures { λ r. ⌜ Put (now (out .entry)) at (header spaces (line ecu (now (payload .entry)))) r (now (out .exit)) ⌝ }
 {
@@ -206,6 +206,7 @@ fn write_lines(list: &[u8], linefeeds: bool, spaces: bool, headers: bool, out: &
                 cursor = next;
             }
             LineStep::End => return put_prompt(out, at, linefeeds),
+            // Not in a well-formed list.
             LineStep::Malformed => return at,
         }
     }
