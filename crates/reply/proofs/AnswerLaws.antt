@@ -8,7 +8,7 @@ use lib.Dec.{ltb}
 use lib.ListN.{length}
 use lib.Seq.{sets}
 use borrow.Author.Tests.{le-ltb, lt-ltb, ltb-false}
-use Rattle.wire.specs.Answer.{Answer, result, refused}
+use Rattle.wire.specs.Answer.{result, refused}
 use Rattle.wire.specs.Put.{Put}
 use Rattle.wire.specs.Text.{ascii}
 use Rattle.wire.proofs.Cases.{by-test, from-no}
@@ -79,13 +79,13 @@ module _ (linefeeds spaces headers : Bool) where
     -- The text of a list that is empty, and of one that is not
 
     module _ (ls : List Line) (rest : List ℕ) (q : lineList s ≡ got ls rest) where
-      pub list-none : length s ≡ 0 → replyText linefeeds spaces headers ls ≡ chipReply linefeeds (ascii "NO DATA" ∷ [])
+      pub list-none : length s ≤ 0 → replyText linefeeds spaces headers ls ≡ chipReply linefeeds (ascii "NO DATA" ∷ [])
       unfolding lineList
-      list-none h = let e = left-end 64 s 0 (omega arith) in let none : ls ≡ [] = cc in rw none reply-none
+      list-none h = let e = left-end 64 s 0 h in let none : ls ≡ [] = cc in rw none reply-none
 
-      pub list-some : (length s ≡ 0 → ⊥) → replyText linefeeds spaces headers ls ≡ chipReply linefeeds (map (lineText spaces headers) ls)
+      pub list-some : 0 < length s → replyText linefeeds spaces headers ls ≡ chipReply linefeeds (map (lineText spaces headers) ls)
       unfolding lineList
-      list-some h = some-lines ls (λ e. h (no-lines 64 s rest (q ∙ rw e)))
+      list-some h = some-lines ls (λ e. omega (arith, no-lines 64 s rest (q ∙ rw e)))
         where
           some-lines : (ms : List Line) → (ms ≡ [] → ⊥) → replyText linefeeds spaces headers ms ≡ chipReply linefeeds (map (lineText spaces headers) ms)
           some-lines [] n = absurd (n refl)
@@ -124,13 +124,13 @@ module _ (linefeeds spaces headers : Bool) where
         pub answer-small : {n : ℕ} → r ≡ size.Size n → length out < n → lent SmallBuffer out ≡ replied linefeeds spaces headers s out
         answer-small d h = let (ls, rest, g, n) = size-told q d in replied-small ls rest g (omega arith)
 
-        pub answer-none : {n : ℕ} → r ≡ size.Size n → n ≤ length out → length s ≡ 0 →
+        pub answer-none : {n : ℕ} → r ≡ size.Size n → n ≤ length out → length s ≤ 0 →
             {left : List ℕ} {a : ℕ} → Put out 0 (chipReply linefeeds (ascii "NO DATA" ∷ [])) a left → lent (Written a) left ≡ replied linefeeds spaces headers s out
         answer-none d h e p =
             let (ls, rest, g, n) = size-told q d in
             replied-written ls rest g (omega arith) (rw (list-none ls rest g e) p)
 
-        pub answer-some : {n : ℕ} → r ≡ size.Size n → n ≤ length out → (length s ≡ 0 → ⊥) →
+        pub answer-some : {n : ℕ} → r ≡ size.Size n → n ≤ length out → 0 < length s →
             {left : List ℕ} {a : ℕ} → ((ls : List Line) (rest : List ℕ) → lineList s ≡ got ls rest → Put out 0 (chipReply linefeeds (map (lineText spaces headers) ls)) a left) →
             lent (Written a) left ≡ replied linefeeds spaces headers s out
         answer-some d h e p =

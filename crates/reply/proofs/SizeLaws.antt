@@ -1,4 +1,4 @@
--- Laws of sizes: how long a line and a reply are.
+-- Laws of sizes: how long a line and a reply are, and how the walk over a line list adds them up.
 use mathlib.Core.Path.{_≡_, refl, sym, ap, _∙_}
 use mathlib.Core.Bool.{Bool, true, false, cond}
 use mathlib.Core.List.{List, [], _∷_, _++_, map}
@@ -14,7 +14,7 @@ use Rattle.line_list.specs.Lines.{Line, line, readLine, readAllLines, lineList}
 use Rattle.line_list.proofs.StepLaws.{LineHere, left-end, left-line, left-none, left-full}
 use Rattle.reply.specs.Shape.{chipReply}
 use Rattle.reply.specs.Reply.{spaceIf, furtherHex, dataHex, header, lineText, replyText}
-use Rattle.reply.specs.Answers.{sizeAnswer, sizeWith, replySize}
+use Rattle.reply.specs.Answers.{sizeWith, replySize}
 use Rattle.reply.proofs.TextLaws.{no-lines}
 
 further-length : (spaces : Bool) (s : List ℕ) → length (furtherHex spaces s) ≡ (2 + length (spaceIf spaces)) * length s
@@ -27,27 +27,22 @@ pub data-length : (spaces : Bool) (s : List ℕ) → length (dataHex spaces s) �
 data-length spaces [] = omega arith
 data-length spaces (b ∷ s) = rw (further-length spaces s, mul-suc) (omega arith)
 
-header-length : (spaces : Bool) (l : Line) → length (header spaces l) ≡ 5 + 2 * length (spaceIf spaces)
-header-length spaces l = omega (
-  arith,
-  length-append (spaceIf spaces) (hexByte (length (l .bytes)) ++ spaceIf spaces),
-)
+-- five digits, and a space after the id and after the length
+header-length : (spaces headers : Bool) (l : Line) → length (cond headers (header spaces l) []) ≡ cond headers (5 + 2 * length (spaceIf spaces)) 0
+header-length spaces true l = omega (arith, length-append (spaceIf spaces) (hexByte (length (l .bytes)) ++ spaceIf spaces))
+header-length spaces false l = refl
 
 -- a line's header, if on, and its data
 pub line-parts : (spaces headers : Bool) (l : Line) → length (lineText spaces headers l) ≡ length (cond headers (header spaces l) []) + length (dataHex spaces (l .bytes))
 unfolding lineText
 line-parts spaces headers l = length-append (cond headers (header spaces l) []) (dataHex spaces (l .bytes))
 
--- how long a line of so many bytes is: with headers on five digits and two spaces more
+-- how long a line of so many bytes is
 abbrev pub lineSize : Bool → Bool → ℕ → ℕ
 lineSize spaces headers n = cond headers (5 + 2 * length (spaceIf spaces)) 0 + ((2 + length (spaceIf spaces)) * n - length (spaceIf spaces))
 
-pub header-size : (spaces headers : Bool) (l : Line) → length (cond headers (header spaces l) []) ≡ cond headers (5 + 2 * length (spaceIf spaces)) 0
-header-size spaces true l = header-length spaces l
-header-size spaces false l = refl
-
 pub line-length : (spaces headers : Bool) (l : Line) → length (lineText spaces headers l) ≡ lineSize spaces headers (length (l .bytes))
-line-length spaces headers l = line-parts spaces headers l ∙ rw (header-size spaces headers l, data-length spaces (l .bytes))
+line-length spaces headers l = line-parts spaces headers l ∙ rw (header-length spaces headers l, data-length spaces (l .bytes))
 
 -- How long it is at most
 

@@ -41,7 +41,7 @@ repliedWith linefeeds spaces headers (got ls rest) out = fitted (replyText linef
 unfoldable pub replied : Bool → Bool → Bool → List ℕ → List ℕ → Lent
 replied linefeeds spaces headers list out = repliedWith linefeeds spaces headers (lineList list) out
 
--- the number of bytes that the reply has, or 5
+-- the number of bytes that the reply has, by which 6 is decided, or 5
 abbrev pub sizeAnswer : ReplySize → Answer ℕ
 sizeAnswer (size.Size n) = result n
 sizeAnswer size.Malformed = refused 5

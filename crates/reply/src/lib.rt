@@ -23,7 +23,7 @@ pub enum ReplyAnswer {
     SmallBuffer,
 }
 
-pub enum ReplySize {
+enum ReplySize {
     // The reply has so many bytes.
     Size(usize),
     // 5: not a line list.
@@ -34,17 +34,17 @@ pub enum ReplySize {
 pub fn put_prompt(out: &mut [u8], at: usize, linefeeds: bool) -> usize
     ensures { λ r. ⌜ Put (now (out .entry)) at (chipReply linefeeds []) r (now (out .exit)) ⌝ }
 {
-    let at = client_state::put_line_ending(out, at, linefeeds);
-    wire::put_byte(out, at, b'>')
+    let next = client_state::put_line_ending(out, at, linefeeds);
+    wire::put_byte(out, next, b'>')
 }
 
 // A reply of one line.
 pub fn put_text_reply(out: &mut [u8], at: usize, text: &[u8], linefeeds: bool) -> usize
     ensures { λ r. ⌜ Put (now (out .entry)) at (chipReply linefeeds (now (text .entry) ∷ [])) r (now (out .exit)) ⌝ }
 {
-    let at = wire::put(out, at, text);
-    let at = client_state::put_line_ending(out, at, linefeeds);
-    put_prompt(out, at, linefeeds)
+    let end = wire::put(out, at, text);
+    let next = client_state::put_line_ending(out, end, linefeeds);
+    put_prompt(out, next, linefeeds)
 }
 
 // The space that follows the parts of a header and separates bytes, if spaces are on.
@@ -67,7 +67,7 @@ fn ecu_id(ecu: u16) -> u16
     ecu - 1
 }
 
-// The header of a line: its ECU and how many bytes it has, in two digits.
+// The header of a line: its ECU, and how many bytes it has (255 at most) in two digits.
 fn put_header(out: &mut [u8], at: usize, ecu: u16, payload: &[u8], spaces: bool) -> usize
     ensures { λ r. ⌜ Put (now (out .entry)) at (header spaces (line ecu (now (payload .entry)))) r (now (out .exit)) ⌝ }
 {
@@ -206,6 +206,7 @@ fn write_lines(list: &[u8], linefeeds: bool, spaces: bool, headers: bool, out: &
                 cursor = next;
             }
             LineStep::End => return put_prompt(out, at, linefeeds),
+            // Not in a well-formed list.
             LineStep::Malformed => return at,
         }
     }
@@ -227,8 +228,8 @@ pub fn write_reply(
     if out.len() < size {
         return ReplyAnswer::SmallBuffer;
     }
-    if list.len() == 0 {
-        return ReplyAnswer::Written(put_text_reply(out, 0, b"NO DATA", linefeeds));
+    if 0 < list.len() {
+        return ReplyAnswer::Written(write_lines(list, linefeeds, spaces, headers, out));
     }
-    ReplyAnswer::Written(write_lines(list, linefeeds, spaces, headers, out))
+    ReplyAnswer::Written(put_text_reply(out, 0, b"NO DATA", linefeeds))
 }
