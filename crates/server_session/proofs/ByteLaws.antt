@@ -22,7 +22,8 @@ use Rattle.server_session.specs.declared.ByteAnswer.{ByteAnswer}
 use Rattle.server_session.specs.declared.ByteStep.{ByteStep}
 use Rattle.server_session.specs.Session.{Session, session, isReading, Said, saying, refusing, lent}
 use Rattle.server_session.specs.Bytes.{canonical, byteNumber, withLine, echoes, echoed, commandPhase, emptyLine, lineEnd, byteTaken, byteSays, byteAnswer, byteServed}
-use Rattle.server_session.specs.Steps.{Does, numbered, goesOn}
+use Rattle.server_session.specs.Steps.{numbered, goesOn}
+use Rattle.server_session.proofs.LineLaws.{and-false}
 
 -- Lists
 
@@ -76,6 +77,16 @@ number-none room s b e =
       low = leb-false 128 b l;
       short = λ p q. leb-false 128 (length (s .line)) (short-of _ (eqb b 13) (eqb b 10) n (ne-eqb b 13 p) (ne-eqb b 10 q));
     }
+
+room-left : (n b : ℕ) → ((b ≡ 13 → ⊥) → (b ≡ 10 → ⊥) → n < 128) → leb 128 n && (not (eqb b 13) && not (eqb b 10)) ≡ false
+room-left n b h =
+    by-test (eqb b 13)
+    (λ e. rw e (and-false (leb 128 n)))
+    (λ e. by-test (eqb b 10) (λ f. rw (e, f) (and-false (leb 128 n))) (λ f. rw (lt-leb 128 n (h (eqb-false b 13 e) (eqb-false b 10 f)))))
+
+pub number-open : (room : ℕ) (s : Session) (b : ℕ) → Open room s b → byteNumber room s b ≡ 0
+unfolding byteNumber
+number-open room s b o = rw (o .turn, le-ltb room 8 (o .free), lt-leb 128 b (o .low), room-left (length (s .line)) b (o .short))
 
 -- the answer of a number alone
 pub numbered-on : (n : ℕ) → goesOn (numbered n) ≡ true → n ≡ 0

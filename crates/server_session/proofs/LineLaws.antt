@@ -1,16 +1,28 @@
 -- Laws of a line: its command, made in place, and its start.
 use mathlib.Core.Path.{_≡_, refl, sym, ap, _∙_}
-use mathlib.Core.Bool.{Bool, true, false, _&&_, cond}
+use mathlib.Core.Bool.{Bool, true, false, _&&_, _||_, cond}
 use mathlib.Core.List.{List, [], _∷_, _++_, append-nil, append-assoc}
 use Prim.Native.Nat.{ℕ, zero, suc, _+_, _≤_, _<_}
 use native.Mathlib.Numerals.{add-one}
 use native.Mathlib.Omega.{arith}
-use lib.Dec.{eqb}
+use lib.Dec.{eqb, leb}
 use lib.ListN.{length, take, drop, getD, set, length-take, drop-of-length-le}
 use lib.Seq.{drop-cons, getD-take, take-suc-set, take-set-lt, drop-set-lt}
-use Rattle.wire.specs.Text.{ascii, begins}
-use Rattle.wire.specs.Text.{isSpace, raised}
+use Rattle.wire.specs.Text.{ascii, begins, any, isSpace, raised}
+use Rattle.wire.proofs.Cases.{from-no}
 use Rattle.server_session.specs.Bytes.{canonical}
+
+-- Tests
+
+pub or-none : (a b : Bool) → a || b ≡ false → (a ≡ false) × (b ≡ false)
+or-none true b e = from-no (let z : true ≡ false = e in cc)
+or-none false b e = (refl, e)
+
+pub and-false : (a : Bool) → a && false ≡ false
+and-false true = refl
+and-false false = refl
+
+-- The command of a line
 
 canonical-space : (l : List ℕ) (i : ℕ) → i < length l → isSpace (getD l i 0) ≡ true → canonical (drop i l) ≡ canonical (drop (i + 1) l)
 unfolding canonical
@@ -48,11 +60,7 @@ module _ (line : List ℕ) (size n i : ℕ) (command : List ℕ) (k : size ≤ l
 pub at-short : (l : List ℕ) (n : ℕ) → n < 2 → begins (take n l) (ascii "AT") ≡ false
 at-short l zero h = refl
 at-short [] (suc zero) h = refl
-at-short (x ∷ l) (suc zero) h = none (eqb x 65)
-  where
-    none : (b : Bool) → b && false ≡ false
-    none true = refl
-    none false = refl
+at-short (x ∷ l) (suc zero) h = and-false (eqb x 65)
 at-short l (suc (suc n)) h = absurd (omega arith)
 
 pub at-second : (l : List ℕ) (n : ℕ) → 2 ≤ n → getD l 0 0 ≡ 65 → eqb (getD l 1 0) 84 ≡ begins (take n l) (ascii "AT")
@@ -70,3 +78,19 @@ pub at-other : (l : List ℕ) (n : ℕ) → eqb (getD l 0 0) 65 ≡ false → be
 at-other l zero e = refl
 at-other [] (suc n) e = refl
 at-other (x ∷ l) (suc n) e = rw e
+
+-- A text without spaces and small letters is its own command.
+abbrev pub isChanged : ℕ → Bool
+isChanged b = isSpace b || (leb 97 b && leb b 122)
+
+raised-same : (b : ℕ) → leb 97 b && leb b 122 ≡ false → raised b ≡ b
+unfolding raised
+raised-same b e = rw e
+
+pub canonical-same : (text : List ℕ) → any isChanged text ≡ false → canonical text ≡ text
+unfolding canonical
+canonical-same [] p = refl
+canonical-same (b ∷ text) p =
+    let (q, r) = or-none (isChanged b) (any isChanged text) p in
+    let (u, v) = or-none (isSpace b) (leb 97 b && leb b 122) q in
+    rw (u, raised-same b v, canonical-same text r)

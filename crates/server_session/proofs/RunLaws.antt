@@ -24,8 +24,9 @@ use Rattle.server_session.specs.declared.Run.{Run}
 use Rattle.server_session.specs.Session.{Session, session, isReading, Said}
 use Rattle.server_session.specs.Bytes.{withLine, echoes, byteSays, byteAnswer, Heard, onward, bytesSay, ServedBytes, bytesServed, lentBytes}
 use Rattle.server_session.specs.Steps.{Does, goesOn, counted, isSpecial, RunFits, Ran}
+use Rattle.server_session.proofs.LineLaws.{or-none}
 use Rattle.server_session.proofs.ByteLaws.{take-cut, reading, text-short}
-use Rattle.server_session.proofs.BytesLaws.{or-left, or-right, after, lastOf, bytes-on, bytes-stop, bytes-some}
+use Rattle.server_session.proofs.BytesLaws.{after, on-counted, lastOf, bytes-on, bytes-stop, onward-after, echo-append, echo-less, bytes-some}
 
 -- How many bytes a run may have
 
@@ -43,19 +44,11 @@ module _ (s : Session) (left free most : ℕ) (there : most ≤ left) (line : le
 
 any-snoc : (f : ℕ → Bool) (s : List ℕ) (b : ℕ) → any f s ≡ false → f b ≡ false → any f (s ++ (b ∷ [])) ≡ false
 any-snoc f [] b p q = rw q
-any-snoc f (a ∷ s) b p q = rw (or-left (f a) _ p) (any-snoc f s b (or-right (f a) _ p) q)
-
-echo-snoc : (on : Bool) (s t : List ℕ) → cond on (s ++ t) [] ≡ cond on s [] ++ cond on t []
-echo-snoc true s t = refl
-echo-snoc false s t = refl
+any-snoc f (a ∷ s) b p q = let (u, v) = or-none (f a) (any f s) p in rw u (any-snoc f s b v q)
 
 echo-length : (on : Bool) (s : List ℕ) → length (cond on s []) ≡ cond on (length s) 0
 echo-length true s = refl
 echo-length false s = refl
-
-echo-less : (on : Bool) (s : List ℕ) → length (cond on s []) ≤ length s
-echo-less true s = omega arith
-echo-less false s = omega arith
 
 echo-most : (on : Bool) (m n : ℕ) → m ≤ n → cond on m 0 ≤ cond on n 0
 echo-most true m n h = h
@@ -83,7 +76,7 @@ module _ (line : List ℕ) (len : ℕ) (input : List ℕ) (i : ℕ) (out : List 
         within = omega arith;
         plain = rw one-more (any-snoc isSpecial (take n (drop i input)) _ (ran .plain) plain);
         joined = rw (place, one-more, take-suc-set l (len + n) (getD input (i + n) 0) (omega arith), ran .joined, append-assoc);
-        sent = rw (one-more, echo-snoc echo) (put-then (ran .sent) p);
+        sent = rw (one-more, echo-append echo) (put-then (ran .sent) p);
       }
 
 -- What is served
@@ -101,17 +94,6 @@ served-after i n h {e} {out} {o₁} {at} {a} p k =
     let t : i + (n + h .taken) ≡ i + n + h .taken = omega arith in
     let l : at + length (e ++ h .text) ≡ a + length (h .text) = omega (arith, length-append e (h .text), put-whole p k) in
     λ j. record { answer = h .answer; taken = t j; written = l j; next = h .next; out = sym (w .bytes) j }
-
-pub counted-most : (a : Answer Phase) → counted a ≤ 1
-counted-most (result p) = omega arith
-counted-most (refused n) = omega arith
-
-pub on-counted : (a : Answer Phase) → goesOn a ≡ true → counted a ≡ 1
-on-counted (result p) e = refl
-on-counted (refused n) e = from-no cc
-
-onward-after : (d : Said Phase) (h : Heard) → onward d h ≡ after 1 (d .text) h
-onward-after d h = let t : suc (h .taken) ≡ 1 + h .taken = omega arith in λ i. record { answer = h .answer; taken = t i; next = h .next; text = d .text ++ h .text }
 
 -- A part of a turn takes the loop from one place to another, and what is served in the end stays the same.
 pub record Turn (input : List ℕ) (s : ServerSession) (i at : ℕ) (out : List ℕ) (s₁ : ServerSession) (i₁ at₁ : ℕ) (o : List ℕ) : Type 0 where

@@ -4,9 +4,10 @@ mod replies;
 
 use client_state::ClientState;
 ghost use mathlib.Core.Path.{_≡_};
-ghost use mathlib.Core.Bool.{true, cond};
+ghost use mathlib.Core.Bool.{cond, _&&_, not};
 ghost use mathlib.Core.List.{[], _∷_};
 ghost use Prim.Native.Nat.{_+_, _-_, _≤_, min};
+ghost use lib.Dec.{eqb, leb};
 ghost use lib.ListN.{length, take};
 ghost use Rattle.wire.specs.Answer.{result};
 ghost use Rattle.wire.specs.Put.{Put};
@@ -144,16 +145,33 @@ fn counts(answer: ByteAnswer) -> usize
     }
 }
 
-fn is_special(b: u8) -> bool
-    ensures { λ r. ⌜ r ≡ isSpecial b ⌝ }
+// Whether a byte does more than join the line.
+fn is_special(byte: u8) -> bool
+    ensures { λ r. ⌜ r ≡ isSpecial byte ⌝ }
 {
-    if 128 <= b {
+    if 128 <= byte {
         return true;
     }
-    if b == b'\r' {
+    if byte == b'\r' {
         return true;
     }
-    b == b'\n'
+    byte == b'\n'
+}
+
+// Whether a line of that size has no place for a byte: CR and LF need none.
+fn is_full(size: usize, byte: u8) -> bool
+    ensures { λ r. ⌜ r ≡ leb 128 size && (not (eqb byte 13) && not (eqb byte 10)) ⌝ }
+{
+    if size < 128 {
+        return false;
+    }
+    if byte == b'\r' {
+        return false;
+    }
+    if byte == b'\n' {
+        return false;
+    }
+    true
 }
 
 // The lesser of two counts.
@@ -255,8 +273,8 @@ impl ServerSession {
         ServerSession {
             state: ClientState::default(),
             line: [0; 128],
-            len: 0,
-            phase: Phase::Reading,
+            len: 0, // no byte is read
+            phase: Phase::Reading, // nor a command handed out
         }
     }
 
@@ -276,6 +294,7 @@ impl ServerSession {
         ensures { λ r. ⌜ byteAnswer r ≡ numbered (byteNumber room (session self) b) ⌝ }
     {
         let phase = self.phase;
+        let full = is_full(self.command_size(), b);
         if is_reading(phase) {
             if room < 8 {
                 return ByteAnswer::SmallBuffer;
@@ -283,16 +302,10 @@ impl ServerSession {
             if 128 <= b {
                 return ByteAnswer::NotAscii;
             }
-            if self.command_size() < 128 {
-                return ByteAnswer::Taken;
+            if full {
+                return ByteAnswer::LineFull;
             }
-            if b == b'\r' {
-                return ByteAnswer::Taken;
-            }
-            if b == b'\n' {
-                return ByteAnswer::Taken;
-            }
-            return ByteAnswer::LineFull;
+            return ByteAnswer::Taken;
         }
         ByteAnswer::OutOfTurn
     }
@@ -415,18 +428,18 @@ impl ServerSession {
     }
 
     // How many bytes may join the line as a run, if none of them is special.
-    fn run_room(self, left: usize, room: usize) -> usize
-        ensures { λ r. ⌜ RunFits (session self) left room r ⌝ }
+    fn run_room(self, left: usize, free: usize) -> usize
+        ensures { λ r. ⌜ RunFits (session self) left free r ⌝ }
     {
         let phase = self.phase;
         if is_reading(phase) {
-            if room < 8 {
+            if free < 8 {
                 return 0;
             }
             let state = self.state;
             let most = lesser(left, 128 - self.command_size());
             if state.echo_enabled {
-                return lesser(most, room - 8);
+                return lesser(most, free - 8);
             }
             return most;
         }

@@ -9,7 +9,8 @@ use borrow.Author.Needs.{needs}
 use Rattle.wire.proofs.PutLaws.{put-length}
 use Rattle.server_session.specs.declared.ServerSession.{ServerSession}
 use Rattle.server_session.specs.Bytes.{bytesSay, lentBytes, byteAnswer}
-use Rattle.server_session.proofs.RunLaws.{servedFrom, from-start, Turn, run-turn, byte-turn, byte-stop, bytes-end, counted-most, on-counted}
+use Rattle.server_session.proofs.RunLaws.{servedFrom, from-start, Turn, run-turn, byte-turn, byte-stop, bytes-end}
+use Rattle.server_session.proofs.BytesLaws.{counted-most, on-counted}
 use Rattle.server_session.specs.Session.{session}
 use Rattle.server_session.proofs.ServerSession.bytes.Statement.{statement}
 use Rattle.server_session.proofs.ServerSession.bytes.Tie as tie
