@@ -1,2 +1,4 @@
 pub mod LengthLaws
 pub mod WalkLaws
+pub mod InLaws
+pub mod CountLaws
