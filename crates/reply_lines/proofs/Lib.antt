@@ -1,0 +1,4 @@
+pub mod ScanLaws
+pub mod TurnLaws
+pub mod LineLaws
+pub mod DecodeLaws
