@@ -2,3 +2,4 @@ pub mod LengthLaws
 pub mod WalkLaws
 pub mod InLaws
 pub mod CountLaws
+pub mod LineLaws

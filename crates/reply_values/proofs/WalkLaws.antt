@@ -100,3 +100,14 @@ module _ (lengths : List ℕ) (e : ℕ) (l : List ℕ) {out : List ℕ} {at : �
   pub put-line-walked : {left : List ℕ} {r : ℕ} → getD l 0 0 ≡ 0x41 → Put out at (valuesBytes (walked lengths e (take (length l - 1) (drop 1 l)))) r left →
       Put out at (valuesBytes (lineValues lengths e l)) r left
   put-line-walked h p = rw (line-walked lengths e l h) p
+
+-- the values of some lines and then of others, written and not
+pub values-append : (lengths : List ℕ) (ls ms : List Line) → valuesOf lengths (ls ++ ms) ≡ valuesOf lengths ls ++ valuesOf lengths ms
+values-append lengths [] ms = refl
+values-append lengths (l ∷ ls) ms =
+    ap (λ vs. lineValues lengths (l .ecu) (l .bytes) ++ vs) (values-append lengths ls ms)
+    ∙ sym (append-assoc (lineValues lengths (l .ecu) (l .bytes)) (valuesOf lengths ls) (valuesOf lengths ms))
+
+pub bytes-append : (vs ws : List Value) → valuesBytes (vs ++ ws) ≡ valuesBytes vs ++ valuesBytes ws
+bytes-append [] ws = refl
+bytes-append (v ∷ vs) ws = ap (λ s. valueBytes v ++ s) (bytes-append vs ws) ∙ sym (append-assoc (valueBytes v) (valuesBytes vs) (valuesBytes ws))
