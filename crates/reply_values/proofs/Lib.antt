@@ -3,3 +3,4 @@ pub mod WalkLaws
 pub mod InLaws
 pub mod CountLaws
 pub mod LineLaws
+pub mod SizeLaws
