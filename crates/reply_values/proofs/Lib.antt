@@ -4,3 +4,4 @@ pub mod InLaws
 pub mod CountLaws
 pub mod LineLaws
 pub mod SizeLaws
+pub mod ReadLaws

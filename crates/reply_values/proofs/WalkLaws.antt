@@ -16,6 +16,7 @@ use Rattle.wire.proofs.PutLaws.{put-none, put-rest, put-nil}
 use Rattle.pid.specs.Lengths.{lengthIn}
 use Rattle.line_list.specs.Lines.{Line}
 use Rattle.value.specs.Values.{Value, value, valueBytes, valuesBytes}
+use Rattle.value.proofs.RecordLaws.{ValuesFit}
 use Rattle.reply_values.specs.Values.{spanOf, walk, walked, lineValues, valuesOf}
 
 -- enough steps are enough
@@ -111,3 +112,32 @@ values-append lengths (l ∷ ls) ms =
 pub bytes-append : (vs ws : List Value) → valuesBytes (vs ++ ws) ≡ valuesBytes vs ++ valuesBytes ws
 bytes-append [] ws = refl
 bytes-append (v ∷ vs) ws = ap (λ s. valueBytes v ++ s) (bytes-append vs ws) ∙ sym (append-assoc (valueBytes v) (valuesBytes vs) (valuesBytes ws))
+
+-- every value has its line's ECU
+abbrev pub FromEcu : ℕ → List Value → Type 0
+FromEcu e [] = Unit {0}
+FromEcu e (v ∷ vs) = (v .ecu ≡ e) × FromEcu e vs
+
+walk-ecu : (f : ℕ) (lengths : List ℕ) (e : ℕ) (s : List ℕ) → FromEcu e (walk f lengths e s)
+walk-ecu zero lengths e s = tt
+walk-ecu (suc f) lengths e [] = tt
+walk-ecu (suc f) lengths e (p ∷ s) = (refl, walk-ecu f lengths e (drop (spanOf (lengthIn lengths p) (length s)) s))
+
+pub line-ecu : (lengths : List ℕ) (e : ℕ) (l : List ℕ) → FromEcu e (lineValues lengths e l)
+unfolding walked
+line-ecu lengths e [] = tt
+line-ecu lengths e (m ∷ s) = by-test (eqb m 0x41) (λ t. rw t (walk-ecu (length s) lengths e s)) (λ t. rw t tt)
+
+-- lines whose ECU+1 is at most 4,096
+abbrev pub KnownEcus : List Line → Type 0
+KnownEcus [] = Unit {0}
+KnownEcus (l ∷ ls) = (l .ecu ≤ 4096) × KnownEcus ls
+
+fit-append : {e : ℕ} → e ≤ 4096 → (vs ws : List Value) → FromEcu e vs → ValuesFit ws → ValuesFit (vs ++ ws)
+fit-append k [] ws f h = h
+fit-append k (v ∷ vs) ws f h = (omega (arith, f .0), fit-append k vs ws (f .1) h)
+
+-- have values that can be read back
+pub values-fit : (lengths : List ℕ) (ls : List Line) → KnownEcus ls → ValuesFit (valuesOf lengths ls)
+values-fit lengths [] h = tt
+values-fit lengths (l ∷ ls) h = fit-append (h .0) (lineValues lengths (l .ecu) (l .bytes)) (valuesOf lengths ls) (line-ecu lengths (l .ecu) (l .bytes)) (values-fit lengths ls (h .1))
