@@ -45,22 +45,22 @@ decided support.Unknown m = m
 decided support.Yes m = support.Yes
 decided support.No m = support.No
 
--- a query or a repeat of `query_pids` is under way
-abbrev pub isSeveral : Under → Query → Bool
-isSeveral under.Nothing q = false
-isSeveral under.Reset q = false
-isSeveral (under.Setup k) q = false
-isSeveral (under.Raw e) q = false
-isSeveral under.Query q = q .several
-isSeveral under.Repeat q = q .several
-isSeveral under.Complete q = q .several
+-- a query of `query_pids` is under way, where several says that the query is such a one
+abbrev pub isSeveral : Under → Bool → Bool
+isSeveral under.Nothing several = false
+isSeveral under.Reset several = false
+isSeveral (under.Setup k) several = false
+isSeveral (under.Raw e) several = false
+isSeveral under.Query several = several
+isSeveral under.Repeat several = several
+isSeveral under.Complete several = several
 
 -- 7, 8 and 9 "end the query or command, forget the last command, leave buffers untouched, and mark untested multi-PID support No in a multi-PID query"
 abbrev pub failedKnown : Bool → Known → Known
 failedKnown several k = withLast (withMulti k (cond several (decided (k .multi) support.No) (k .multi))) []
 
 abbrev pub failedClient : Client → Client
-failedClient c = withUnder (withKnown c (failedKnown (isSeveral (c .under) (c .query)) (c .known))) under.Nothing 0
+failedClient c = withUnder (withKnown c (failedKnown (isSeveral (c .under) (c .query .several)) (c .known))) under.Nothing 0
 
 abbrev pub failing : {A : Type 0} → ℕ → Client → Said A
 failing n c = record { answer = refused n; next = failedClient c; text = [] }
@@ -83,6 +83,13 @@ afterEffect effect.Kept framing = framing
 afterEffect effect.On framing = true
 afterEffect effect.Off framing = false
 
+-- a repeated query is answered by r: with a `?` it goes out in full
+abbrev pub repeatDone : Client → List ℕ → Said Progress
+repeatDone c r =
+    cond (has 63 r)
+    (saying sent (withUnder (withKnown c (withRepeat (c .known) support.No)) under.Query 0) (c .query .text ++ (13 ∷ [])))
+    (saying complete (withUnder (withKnown c (withRepeat (c .known) (decided (c .known .repeat) support.Yes))) under.Complete (length r)) [])
+
 -- a reply r is complete; out of turn nothing is awaited
 abbrev pub completed : Under → Client → List ℕ → Said Progress
 completed under.Nothing c r = refusing 1 c
@@ -91,10 +98,7 @@ completed (under.Setup k) c r = setupDone c k (length r)
 completed (under.Raw e) c r =
     saying over (withUnder (withKnown c (withFraming (c .known) (afterEffect e (c .known .framing)))) under.Nothing (length r)) []
 completed under.Query c r = saying complete (withUnder (withKnown c (withLast (c .known) (c .query .text))) under.Complete (length r)) []
-completed under.Repeat c r =
-    cond (has 63 r)
-    (saying sent (withUnder (withKnown c (withRepeat (c .known) support.No)) under.Query 0) (c .query .text ++ (13 ∷ [])))
-    (saying complete (withUnder (withKnown c (withRepeat (c .known) (decided (c .known .repeat) support.Yes))) under.Complete (length r)) [])
+completed under.Repeat c r = repeatDone c r
 completed under.Complete c r = refusing 1 c
 
 -- the reply so far: what the lent store holds of it, at most 4,096 bytes

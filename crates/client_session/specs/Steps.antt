@@ -9,6 +9,8 @@ use Rattle.client_session.specs.declared.Under.the-variants as under
 use Rattle.client_session.specs.declared.ClientSession.{ClientSession}
 use Rattle.client_session.specs.declared.StartAnswer.{StartAnswer}
 use Rattle.client_session.specs.declared.StartStep.{StartStep}
+use Rattle.client_session.specs.declared.PieceAnswer.{PieceAnswer}
+use Rattle.client_session.specs.declared.PieceStep.{PieceStep}
 use Rattle.client_session.specs.Session.{Said, Served}
 
 -- A call does what is said, and writes from the front of the out buffer on as far as it reaches.
@@ -30,3 +32,6 @@ isReset under.Complete = false
 -- nothing is sent, and the session stays
 abbrev pub unstarted : ClientSession → StartAnswer → StartStep
 unstarted s a = record { answer = a; written = 0; session = s }
+
+abbrev pub unmoved : ClientSession → PieceAnswer → PieceStep
+unmoved s a = record { answer = a; written = 0; session = s }

@@ -9,8 +9,8 @@ ghost use Rattle.wire.specs.Put.{Put};
 ghost use Rattle.wire.specs.Text.{high};
 ghost use Rattle.client_session.specs.Session.{client, freshClient, lent, withUnder, withKnown, withLast, withFraming, withRepeat, withMulti};
 ghost use Rattle.client_session.specs.Start.{isNothing, mayRepeat, initSays, commandSays, startServed};
-ghost use Rattle.client_session.specs.Piece.{decided, isSeveral, failedClient, sendSetup, afterEffect, completed, progressed, replyTakes, appended, isAwaited, pieceLent, failureSays, isWrite, pieceAnswer, pieceServed, pieceReceived};
-ghost use Rattle.client_session.specs.Steps.{Does, isReset, unstarted};
+ghost use Rattle.client_session.specs.Piece.{decided, isSeveral, failedClient, sendSetup, setupDone, afterEffect, repeatDone, completed, progressed, replyTakes, appended, isAwaited, pieceLent, failureSays, isWrite, pieceAnswer, pieceServed, pieceReceived};
+ghost use Rattle.client_session.specs.Steps.{Does, isReset, unstarted, unmoved};
 
 // Whether the peer supports an optional feature.
 pub enum FeatureSupport {
@@ -158,6 +158,21 @@ fn is_reset(under: Under) -> bool
         Under::Query => false,
         Under::Repeat => false,
         Under::Complete => false,
+    }
+}
+
+// Whether a query of `query_pids` is under way.
+fn is_several(under: Under, several: bool) -> bool
+    ensures { λ r. ⌜ r ≡ isSeveral under several ⌝ }
+{
+    match under {
+        Under::Nothing => false,
+        Under::Reset => false,
+        Under::Setup(_) => false,
+        Under::Raw(_) => false,
+        Under::Query => several,
+        Under::Repeat => several,
+        Under::Complete => several,
     }
 }
 
@@ -358,6 +373,145 @@ impl ClientSession {
             answer: StartAnswer::Sent,
             written: written,
             session: self.forgetting().moved(Under::Raw(effect), 0),
+        }
+    }
+
+    // The session after 7, 8 or 9: the query or command is over, and the last command is forgotten.
+    fn failed(self) -> ClientSession
+        ensures { λ r. ⌜ client r ≡ failedClient (client self) ⌝ }
+    {
+        let under = self.under;
+        let repeat = self.repeat;
+        let multi_pid = self.multi_pid;
+        if is_several(under, self.several) {
+            let decided = decide(multi_pid, FeatureSupport::No);
+            return self.forgetting().with(Under::Nothing, 0, repeat, decided);
+        }
+        self.forgetting().moved(Under::Nothing, 0)
+    }
+
+    // How many bytes the text of the query under way has, whatever query_len holds.
+    fn query_size(self) -> usize
+        ensures { λ r. ⌜ r ≡ min (self .«query_len») 18 ⌝ }
+    {
+        let n = self.query_len;
+        if n < 18 {
+            return n;
+        }
+        18
+    }
+
+    // The query under way in full.
+    fn put_query(self, out: &mut [u8]) -> usize
+        ensures { λ r. ⌜ Put (now (out .entry)) 0 (client self .query .text ++ (13 ∷ [])) r (now (out .exit)) ⌝ }
+    {
+        let query = self.query;
+        let size = self.query_size();
+        let at = wire::put(out, 0, &query[..size]);
+        wire::put_byte(out, at, b'\r')
+    }
+
+    // A piece or failure that is refused changes nothing.
+    fn unmoved(self, answer: PieceAnswer) -> PieceStep
+        ensures { λ r. ⌜ r ≡ unmoved self answer ⌝ }
+    {
+        PieceStep {
+            answer: answer,
+            written: 0,
+            session: self,
+        }
+    }
+
+    // The k-th command of the initialisation after ATZ goes out. It is a raw command, and forgets the last one.
+    fn send_setup(self, k: u8, out: &mut [u8]) -> PieceStep
+        ensures { λ r. ⌜ Does (sendSetup (client self) k) (now (out .entry)) (pieceServed r (now (out .exit))) ⌝ }
+    {
+        let written = client_command::put_setup(out, 0, self.want_framing, k);
+        PieceStep {
+            answer: PieceAnswer::Sent,
+            written: written,
+            session: self.forgetting().moved(Under::Setup(k), 0),
+        }
+    }
+
+    // The k-th is answered: the next one goes out, and the last sets framing as it was asked for.
+    fn end_setup(self, k: u8, got: usize, out: &mut [u8]) -> PieceStep
+        ensures { λ r. ⌜ Does (setupDone (client self) k got) (now (out .entry)) (pieceServed r (now (out .exit))) ⌝ }
+    {
+        if k < 4 {
+            return self.send_setup(k + 1, out);
+        }
+        PieceStep {
+            answer: PieceAnswer::Over,
+            written: 0,
+            session: self.with_framing(self.want_framing)
+                .moved(Under::Nothing, got),
+        }
+    }
+
+    // A repeated query is answered: with a `?` it is sent in full.
+    fn end_repeat(self, reply: &[u8], out: &mut [u8]) -> PieceStep
+        ensures { λ r. ⌜ Does (repeatDone (client self) (now (reply .entry))) (now (out .entry)) (pieceServed r (now (out .exit))) ⌝ }
+    {
+        let repeat = self.repeat;
+        let multi_pid = self.multi_pid;
+        if wire::has(reply, b'?') {
+            let written = self.put_query(out);
+            return PieceStep {
+                answer: PieceAnswer::Sent,
+                written: written,
+                session: self.with(Under::Query, 0, FeatureSupport::No, multi_pid),
+            };
+        }
+        PieceStep {
+            answer: PieceAnswer::Complete,
+            written: 0,
+            session: self.with(
+                Under::Complete,
+                reply.len(),
+                decide(repeat, FeatureSupport::Yes),
+                multi_pid,
+            ),
+        }
+    }
+
+    // The awaited reply is complete.
+    fn complete(self, reply: &[u8], out: &mut [u8]) -> PieceStep
+        ensures { λ r. ⌜ Does (completed (self .under) (client self) (now (reply .entry))) (now (out .entry)) (pieceServed r (now (out .exit))) ⌝ }
+    {
+        let under = self.under;
+        match under {
+            Under::Nothing => self.unmoved(PieceAnswer::OutOfTurn),
+            Under::Reset => self.send_setup(0, out),
+            Under::Setup(k) => self.end_setup(k, reply.len(), out),
+            Under::Raw(effect) => PieceStep {
+                answer: PieceAnswer::Over,
+                written: 0,
+                session: self.with_framing(after_effect(effect, self.framing))
+                    .moved(Under::Nothing, reply.len()),
+            },
+            Under::Query => PieceStep {
+                answer: PieceAnswer::Complete,
+                written: 0,
+                session: self.remembering().moved(Under::Complete, reply.len()),
+            },
+            Under::Repeat => self.end_repeat(reply, out),
+            Under::Complete => self.unmoved(PieceAnswer::OutOfTurn),
+        }
+    }
+
+    // The joined reply, as it stands in the store: it is complete once it holds the prompt.
+    fn progress(self, reply: &[u8], out: &mut [u8]) -> PieceStep
+        ensures { λ r. ⌜ Does (progressed (self .under) (client self) (now (reply .entry))) (now (out .entry)) (pieceServed r (now (out .exit))) ⌝ }
+    {
+        if wire::has(reply, b'>') {
+            return self.complete(reply, out);
+        }
+        let under = self.under;
+        PieceStep {
+            answer: PieceAnswer::Awaited,
+            written: 0,
+            session: self.moved(under, reply.len()),
         }
     }
 }
