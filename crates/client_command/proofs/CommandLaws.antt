@@ -63,3 +63,12 @@ setup-last framing (suc zero) h = absurd (omega arith)
 setup-last framing (suc (suc zero)) h = absurd (omega arith)
 setup-last framing (suc (suc (suc zero))) h = absurd (omega arith)
 setup-last framing (suc (suc (suc (suc k)))) h = refl
+
+-- a command of the initialisation has at most six bytes
+pub setup-length : (framing : Bool) (k : ℕ) → length (setupText framing k) ≤ 6
+setup-length framing zero = omega arith
+setup-length framing (suc zero) = omega arith
+setup-length framing (suc (suc zero)) = omega arith
+setup-length framing (suc (suc (suc zero))) = omega arith
+setup-length true (suc (suc (suc (suc k)))) = omega arith
+setup-length false (suc (suc (suc (suc k)))) = omega arith

@@ -10,7 +10,7 @@ ghost use Rattle.wire.specs.Text.{high};
 ghost use Rattle.client_session.specs.Session.{client, freshClient, lent, withUnder, withKnown, withLast, withFraming, withRepeat, withMulti};
 ghost use Rattle.client_session.specs.Start.{isNothing, mayRepeat, initSays, commandSays, startServed};
 ghost use Rattle.client_session.specs.Piece.{decided, isSeveral, failedClient, sendSetup, setupDone, afterEffect, repeatDone, completed, progressed, replyTakes, appended, isAwaited, pieceLent, failureSays, isWrite, pieceAnswer, pieceServed, pieceReceived};
-ghost use Rattle.client_session.specs.Steps.{Does, isReset, unstarted, unmoved};
+ghost use Rattle.client_session.specs.Steps.{Does, Ends, Joining, Receives, isReset, pieceLimit, unstarted};
 
 // Whether the peer supports an optional feature.
 pub enum FeatureSupport {
@@ -159,6 +159,16 @@ fn is_reset(under: Under) -> bool
         Under::Repeat => false,
         Under::Complete => false,
     }
+}
+
+// How many bytes a piece may have.
+fn piece_limit(under: Under) -> usize
+    ensures { λ r. ⌜ r ≡ pieceLimit under ⌝ }
+{
+    if is_reset(under) {
+        return 256;
+    }
+    128
 }
 
 // Whether a query of `query_pids` is under way.
@@ -376,20 +386,6 @@ impl ClientSession {
         }
     }
 
-    // The session after 7, 8 or 9: the query or command is over, and the last command is forgotten.
-    fn failed(self) -> ClientSession
-        ensures { λ r. ⌜ client r ≡ failedClient (client self) ⌝ }
-    {
-        let under = self.under;
-        let repeat = self.repeat;
-        let multi_pid = self.multi_pid;
-        if is_several(under, self.several) {
-            let decided = decide(multi_pid, FeatureSupport::No);
-            return self.forgetting().with(Under::Nothing, 0, repeat, decided);
-        }
-        self.forgetting().moved(Under::Nothing, 0)
-    }
-
     // How many bytes the text of the query under way has, whatever query_len holds.
     fn query_size(self) -> usize
         ensures { λ r. ⌜ r ≡ min (self .«query_len») 18 ⌝ }
@@ -411,14 +407,39 @@ impl ClientSession {
         wire::put_byte(out, at, b'\r')
     }
 
+    // The session after 7, 8 or 9.
+    fn failed(self) -> ClientSession
+        ensures { λ r. ⌜ client r ≡ failedClient (client self) ⌝ }
+    {
+        let under = self.under;
+        let repeat = self.repeat;
+        let multi_pid = self.multi_pid;
+        if is_several(under, self.several) {
+            let decided = decide(multi_pid, FeatureSupport::No);
+            return self.forgetting().with(Under::Nothing, 0, repeat, decided);
+        }
+        self.forgetting().moved(Under::Nothing, 0)
+    }
+
     // A piece or failure that is refused changes nothing.
     fn unmoved(self, answer: PieceAnswer) -> PieceStep
-        ensures { λ r. ⌜ r ≡ unmoved self answer ⌝ }
+        ensures { λ r. ⌜ Ends (client self) answer r ⌝ }
     {
         PieceStep {
             answer: answer,
             written: 0,
             session: self,
+        }
+    }
+
+    // 7, 8 and 9 end the query or command and forget the last one.
+    fn fail(self, answer: PieceAnswer) -> PieceStep
+        ensures { λ r. ⌜ Ends (failedClient (client self)) answer r ⌝ }
+    {
+        PieceStep {
+            answer: answer,
+            written: 0,
+            session: self.failed(),
         }
     }
 
@@ -512,6 +533,72 @@ impl ClientSession {
             answer: PieceAnswer::Awaited,
             written: 0,
             session: self.moved(under, reply.len()),
+        }
+    }
+
+    // A piece joins an awaited reply.
+    fn take(self, piece: &[u8], store: &mut [u8], out: &mut [u8]) -> PieceStep
+        requires { ⌜ Joining (client self) (now piece) (now store) ⌝ }
+        ensures { λ r. ⌜ Receives (replyTakes (client self) (now (piece .entry)) (now (store .entry))) (self .got) (now (piece .entry)) (now (store .entry)) (now (out .entry)) r (now (out .exit)) (now (store .exit)) ⌝ }
+    {
+        if piece.len() == 0 {
+            return self.fail(PieceAnswer::Failed);
+        }
+        let got = self.got;
+        if 4096 - piece.len() < got {
+            return self.fail(PieceAnswer::TooMuch);
+        }
+        if joined_high(store, got, piece) {
+            return self.fail(PieceAnswer::NotAscii);
+        }
+        let end = wire::put(store, got, piece);
+        self.progress(&store[..end], out)
+    }
+
+    // A piece of the awaited reply, or an empty one when the connection is closed. The store holds the reply so far; it and out are the host's.
+    pub fn piece(self, piece: &[u8], store: &mut [u8], out: &mut [u8]) -> PieceStep
+        ensures { λ r. ⌜ pieceReceived r (now (out .exit)) (now (store .exit)) ≡ pieceLent (client self) (now (piece .entry)) (now (store .entry)) (now (out .entry)) ⌝ }
+    {
+        let under = self.under;
+        if !is_awaited(under) {
+            return self.unmoved(PieceAnswer::OutOfTurn);
+        }
+        if piece_limit(under) < piece.len() {
+            return self.unmoved(PieceAnswer::TooLong);
+        }
+        if out.len() < 80 {
+            return self.unmoved(PieceAnswer::SmallBuffer);
+        }
+        if store.len() < 4096 {
+            return self.unmoved(PieceAnswer::SmallBuffer);
+        }
+        if is_reset(under) {
+            return self.send_setup(0, out);
+        }
+        self.take(piece, store, out)
+    }
+
+    // The host failed to read or to write. While the answer to ATZ is awaited a failed read drops it, as any piece does.
+    pub fn failure(self, failed: Failure, out: &mut [u8]) -> PieceStep
+        ensures { λ r. ⌜ pieceServed r (now (out .exit)) ≡ lent (failureSays (length (now (out .entry))) (client self) (isWrite failed)) (now (out .entry)) ⌝ }
+    {
+        let under = self.under;
+        if !is_awaited(under) {
+            return self.unmoved(PieceAnswer::OutOfTurn);
+        }
+        if out.len() < 80 {
+            return self.unmoved(PieceAnswer::SmallBuffer);
+        }
+        if !is_reset(under) {
+            return self.fail(PieceAnswer::Failed);
+        }
+        match failed {
+            Failure::Read => self.send_setup(0, out),
+            Failure::Write => PieceStep {
+                answer: PieceAnswer::Failed,
+                written: 0,
+                session: self.moved(Under::Nothing, 0),
+            },
         }
     }
 }

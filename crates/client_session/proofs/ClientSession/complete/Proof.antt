@@ -1,132 +1,96 @@
+-- `client_session::ClientSession::complete` meets its contract.
+use mathlib.Core.Path.{refl, ap, _∙_}
 use lib.ListN.{length}
+use borrow.Author.Needs.{needs}
 use Rattle.client_session.specs.Piece.{completed}
 use Rattle.client_session.specs.declared.Under.{Under}
-use Rattle.wire.proofs.PutLaws.{put-none, put-then}
-use Rattle.client_session.proofs.StepLaws.{does-as, does-unmoved, take-min}
+use Rattle.wire.proofs.PutLaws.{put-none}
+use Rattle.client_session.proofs.StepLaws.{does-as, does-end}
 use Rattle.client_session.specs.declared.Under.the-variants as under
-use Rattle.client_session.specs.Session.{client, withUnder, withKnown, withLast, withFraming, withRepeat, withMulti}
-use mathlib.Core.Path.{_≡_, refl, sym, ap, _∙_}
-use borrow.Author.Needs.{needs}
+use Rattle.client_session.specs.Session.{client, withUnder, withKnown, withFraming}
 use Rattle.client_session.proofs.ClientSession.complete.Statement.{statement}
 use Rattle.client_session.proofs.ClientSession.complete.Tie as tie
-use Rattle.client_session.proofs.ClientSession.complete.Reads as reads
-use Rattle.client_session.proofs.ClientSession.complete.Lts as lts
-use Rattle.client_session.proofs.ClientSession.end_repeat.Reads as end-repeat-reads
-use Rattle.client_session.proofs.ClientSession.end_setup.Reads as end-setup-reads
-use Rattle.client_session.proofs.ClientSession.moved.Reads as moved-reads
-use Rattle.client_session.proofs.ClientSession.remembering.Reads as remembering-reads
-use Rattle.client_session.proofs.ClientSession.send_setup.Reads as send-setup-reads
-use Rattle.client_session.proofs.ClientSession.unmoved.Reads as unmoved-reads
-use Rattle.client_session.proofs.ClientSession.with_framing.Reads as with-framing-reads
-use Rattle.client_session.proofs.after_effect.Reads as after-effect-reads
 
--- src/lib.rt:478:44
 enum-told : tie.Need-enum-told
 enum-told c = search needs
 
--- src/lib.rt:478:31
 unmoved-requires : tie.Need-unmoved-requires
 unmoved-requires c κs = search needs
 
--- src/lib.rt:479:48
 enum-told-2 : tie.Need-enum-told-2
 enum-told-2 c = search needs
 
--- src/lib.rt:479:29
 send-setup-requires : tie.Need-send-setup-requires
 send-setup-requires c κs = search needs
 
--- src/lib.rt:480:26
 enum-known-under : tie.Need-enum-known-under
 enum-known-under c = search needs
 
--- src/lib.rt:480:32
 end-setup-requires : tie.Need-end-setup-requires
 end-setup-requires c κs = search needs
 
--- src/lib.rt:481:24
 enum-known-under-2 : tie.Need-enum-known-under-2
 enum-known-under-2 c = search needs
 
--- src/lib.rt:484:44
 after-effect-requires : tie.Need-after-effect-requires
 after-effect-requires c κs = search needs
 
--- src/lib.rt:484:26
 with-framing-requires : tie.Need-with-framing-requires
 with-framing-requires c κs = search needs
 
--- src/lib.rt:484:26
 moved-requires : tie.Need-moved-requires
 moved-requires c κs = search needs
 
--- src/lib.rt:487:25
 enum-told-3 : tie.Need-enum-told-3
 enum-told-3 c = search needs
 
--- src/lib.rt:489:26
 remembering-requires : tie.Need-remembering-requires
 remembering-requires c κs = search needs
 
--- src/lib.rt:489:26
 moved-requires-2 : tie.Need-moved-requires-2
 moved-requires-2 c κs = search needs
 
--- src/lib.rt:491:53
 enum-told-4 : tie.Need-enum-told-4
 enum-told-4 c = search needs
 
--- src/lib.rt:491:30
 end-repeat-requires : tie.Need-end-repeat-requires
 end-repeat-requires c κs = search needs
 
--- src/lib.rt:492:45
 enum-told-5 : tie.Need-enum-told-5
 enum-told-5 c = search needs
 
--- src/lib.rt:492:32
 unmoved-requires-2 : tie.Need-unmoved-requires-2
 unmoved-requires-2 c κs = search needs
 
--- src/lib.rt:473:5
 returns : tie.Need-returns
-returns c = does-as (ap (λ (u : Under). completed u (client (c .before .before .before .before .before .args .self)) (c .before .before .before .before .before .args .reply .now)) (c .before .enum-told .given .1)) (does-unmoved (c .unmoved .ensures) refl)
+returns c = does-as (ap (λ (u : Under). completed u (client (c .before .before .before .before .before .args .self)) (c .before .before .before .before .before .args .reply .now)) (c .before .enum-told .given .1)) (does-end (c .unmoved .ensures) refl)
 
--- src/lib.rt:473:5
 same-length : tie.Need-same-length
 same-length c = search needs
 
--- src/lib.rt:473:5
 returns-2 : tie.Need-returns-2
 returns-2 c = does-as (ap (λ (u : Under). completed u (client (c .before .before .before .before .before .before .before .before .args .self)) (c .before .before .before .before .before .before .before .before .args .reply .now)) (c .before .before .before .before .enum-told2 .given .1)) (c .before .before .send-setup .ensures)
 
--- src/lib.rt:473:5
 same-length-2 : tie.Need-same-length-2
 same-length-2 c = search needs
 
--- src/lib.rt:473:5
 returns-3 : tie.Need-returns-3
 returns-3 c = does-as (ap (λ (u : Under). completed u (client (c .before .before .before .before .before .before .before .before .before .args .self)) (c .before .before .before .before .before .before .before .before .before .args .reply .now)) (c .before .before .before .before .before .under .given .1)) (c .before .before .end-setup .ensures)
 
--- src/lib.rt:473:5
 returns-4 : tie.Need-returns-4
 returns-4 c = let s = client (c .before .before .before .before .before .before .before .before .args .self) in let n = length (c .before .before .before .before .before .before .before .before .args .reply .now) in does-as (ap (λ (u : Under). completed u (client (c .before .before .before .before .before .before .before .before .args .self)) (c .before .before .before .before .before .before .before .before .args .reply .now)) (c .before .before .before .before .under2 .given .1)) (record { answer = refl; next = c .moved .ensures ∙ (λ i. withUnder (c .before .with-framing .ensures i) under.Nothing n) ∙ (λ i. withUnder (withKnown s (withFraming (s .known) (c .before .before .after-effect .ensures i))) under.Nothing n); text = put-none _ _ })
 
--- src/lib.rt:473:5
 returns-5 : tie.Need-returns-5
 returns-5 c = does-as (ap (λ (u : Under). completed u (client (c .before .before .before .before .before .before .args .self)) (c .before .before .before .before .before .before .args .reply .now)) (c .before .before .enum-told3 .given .1)) (record { answer = refl; next = c .moved2 .ensures ∙ (λ i. withUnder (c .before .remembering .ensures i) under.Complete (length (c .before .before .before .before .before .before .args .reply .now))); text = put-none _ _ })
 
--- src/lib.rt:473:5
 same-length-3 : tie.Need-same-length-3
 same-length-3 c = search needs
 
--- src/lib.rt:473:5
 returns-6 : tie.Need-returns-6
 returns-6 c = does-as (ap (λ (u : Under). completed u (client (c .before .before .before .before .before .before .before .before .args .self)) (c .before .before .before .before .before .before .before .before .args .reply .now)) (c .before .before .before .before .enum-told4 .given .1)) (c .before .before .end-repeat .ensures)
 
--- src/lib.rt:473:5
 returns-7 : tie.Need-returns-7
-returns-7 c = does-as (ap (λ (u : Under). completed u (client (c .before .before .before .before .before .args .self)) (c .before .before .before .before .before .args .reply .now)) (c .before .enum-told5 .given .1)) (does-unmoved (c .unmoved2 .ensures) refl)
+returns-7 c = does-as (ap (λ (u : Under). completed u (client (c .before .before .before .before .before .args .self)) (c .before .before .before .before .before .args .reply .now)) (c .before .enum-told5 .given .1)) (does-end (c .unmoved2 .ensures) refl)
 
 pub complete-spec : {M : Type 1} → statement M
 complete-spec =

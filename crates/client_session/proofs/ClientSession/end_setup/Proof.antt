@@ -1,43 +1,32 @@
-use Rattle.wire.proofs.PutLaws.{put-none, put-then}
-use Rattle.client_session.proofs.PieceLaws.{failed-several, failed-other, setup-next, setup-end}
-use Rattle.client_session.proofs.StepLaws.{does-as, does-unmoved, take-min}
-use Rattle.client_session.specs.declared.Under.the-variants as under
-use Rattle.client_session.specs.Session.{client, withUnder, withKnown, withLast, withFraming, withRepeat, withMulti}
-use mathlib.Core.Path.{refl, sym, ap, _∙_}
+-- `client_session::ClientSession::end_setup` meets its contract.
+use mathlib.Core.Path.{refl, _∙_}
 use borrow.Author.Needs.{needs}
+use Rattle.wire.proofs.PutLaws.{put-none}
+use Rattle.client_session.proofs.PieceLaws.{setup-next, setup-end}
+use Rattle.client_session.proofs.StepLaws.{does-as}
+use Rattle.client_session.specs.declared.Under.the-variants as under
+use Rattle.client_session.specs.Session.{client, withUnder}
 use Rattle.client_session.proofs.ClientSession.end_setup.Statement.{statement}
 use Rattle.client_session.proofs.ClientSession.end_setup.Tie as tie
-use Rattle.client_session.proofs.ClientSession.end_setup.Reads as reads
-use Rattle.client_session.proofs.ClientSession.end_setup.Lts as lts
-use Rattle.client_session.proofs.ClientSession.moved.Reads as moved-reads
-use Rattle.client_session.proofs.ClientSession.send_setup.Reads as send-setup-reads
-use Rattle.client_session.proofs.ClientSession.with_framing.Reads as with-framing-reads
 
--- src/lib.rt:442:36
 add-send-setup : tie.Need-add-send-setup
 add-send-setup c = search needs
 
--- src/lib.rt:442:13
 send-setup-requires : tie.Need-send-setup-requires
 send-setup-requires c κs = search needs
 
--- src/lib.rt:442:13
 same-length : tie.Need-same-length
 same-length c = search needs
 
--- src/lib.rt:442:13
 returns : tie.Need-returns
 returns c = does-as (setup-next (client (c .before .before .before .before .before .before .args .self)) (c .before .before .before .before .before .before .args .k) (c .before .before .before .before .before .before .args .got) (c .before .before .before .before .if1 .taken)) (c .before .before .send-setup .ensures)
 
--- src/lib.rt:447:22
 with-framing-requires : tie.Need-with-framing-requires
 with-framing-requires c κs = search needs
 
--- src/lib.rt:447:22
 moved-requires : tie.Need-moved-requires
 moved-requires c κs = search needs
 
--- src/lib.rt:438:5
 returns-2 : tie.Need-returns-2
 returns-2 c = does-as (setup-end (client (c .before .before .before .before .args .self)) (c .before .before .before .before .args .k) (c .before .before .before .before .args .got) (c .before .before .if1 .left)) (record { answer = refl; next = c .moved .ensures ∙ (λ i. withUnder (c .before .with-framing .ensures i) under.Nothing (c .before .before .before .before .args .got)); text = put-none _ _ })
 
