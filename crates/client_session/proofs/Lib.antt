@@ -1,0 +1,4 @@
+pub mod StepLaws
+pub mod StartLaws
+pub mod PieceLaws
+pub mod StoreLaws
