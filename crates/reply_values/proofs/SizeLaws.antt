@@ -21,7 +21,7 @@ use Rattle.value.specs.Values.{Value, value, valueBytes, valuesBytes}
 use Rattle.value.proofs.ValueLaws.{value-length}
 use Rattle.reply_lines.specs.Lines.{onto, splitCR, trimStart, before, trimEnd, trimmed, stays, staying, textLines, unspaced}
 use Rattle.reply_lines.specs.Decode.{orZero, textLine, replyLines}
-use Rattle.reply_lines.proofs.DecodeLaws.{line-length, line-ecu}
+use Rattle.reply_lines.proofs.DecodeLaws.{data-fits, line-ecu}
 use Rattle.reply_values.specs.Values.{spanOf, walk, walked, lineValues, valuesOf}
 use Rattle.reply_values.proofs.WalkLaws.{span-within, bytes-append}
 

@@ -31,12 +31,6 @@ pub no-length : (l : List ℕ) → length l ≡ 0 → l ≡ []
 no-length [] e = refl
 no-length (x ∷ l) e = absurd (omega arith)
 
--- a count past the end may be cut to it
-pub take-cut : (n : ℕ) (l : List ℕ) → take (length (take n l)) l ≡ take n l
-take-cut zero l = refl
-take-cut (suc n) [] = refl
-take-cut (suc n) (x ∷ l) = ap (λ (r : List ℕ). x ∷ r) (take-cut n l)
-
 -- The number of a byte
 
 -- a byte that gets no number

@@ -25,7 +25,8 @@ use Rattle.server_session.specs.Session.{Session, session, isReading, Sa
 use Rattle.server_session.specs.Bytes.{withLine, echoes, byteSays, byteAnswer, Heard, onward, bytesSay, ServedBytes, bytesServed, lentBytes}
 use Rattle.server_session.specs.Steps.{Does, goesOn, counted, isSpecial, RunFits, Ran}
 use Rattle.server_session.proofs.LineLaws.{or-none}
-use Rattle.server_session.proofs.ByteLaws.{take-cut, reading, text-short}
+use Rattle.wire.proofs.ListLaws.{take-cut}
+use Rattle.server_session.proofs.ByteLaws.{reading, text-short}
 use Rattle.server_session.proofs.BytesLaws.{after, on-counted, lastOf, bytes-on, bytes-stop, onward-after, echo-append, echo-less, bytes-some}
 
 -- How many bytes a run may have

@@ -20,7 +20,8 @@ use Rattle.server_session.specs.declared.ByteStep.{ByteStep}
 use Rattle.server_session.specs.Session.{Session, session, Said, saying, lent}
 use Rattle.server_session.specs.Bytes.{canonical, byteNumber, withLine, echoed, commandPhase, emptyLine, lineEnd, byteTaken, byteSays, byteAnswer, byteServed}
 use Rattle.server_session.specs.Steps.{Does, numbered, goesOn}
-use Rattle.server_session.proofs.ByteLaws.{no-length, take-cut, Open, number-none, numbered-on, numbered-off, says-refused, line-empty, line-command, afterText, taken-cr, taken-lf, taken-plain}
+use Rattle.wire.proofs.ListLaws.{take-cut}
+use Rattle.server_session.proofs.ByteLaws.{no-length, Open, number-none, numbered-on, numbered-off, says-refused, line-empty, line-command, afterText, taken-cr, taken-lf, taken-plain}
 
 -- a text is put, and a step goes on after it
 pub does-after : {d : Said Phase} {e out o₁ left : List ℕ} {at a : ℕ} {r : ByteStep} → Put out at e a o₁ → Does d o₁ a r left → Does (afterText e d) out at r left

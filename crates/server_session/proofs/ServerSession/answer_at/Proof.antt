@@ -3,7 +3,7 @@ use mathlib.Core.Path.{_≡_, ap, _∙_}
 use native.Mathlib.Omega.{arith}
 use lib.ListN.{take, length-take}
 use borrow.Author.Needs.{needs}
-use Rattle.server_session.proofs.ByteLaws.{take-cut}
+use Rattle.wire.proofs.ListLaws.{take-cut}
 use Rattle.server_session.proofs.ReplyLaws.{at-sent}
 use Rattle.server_session.proofs.ServerSession.answer_at.Statement.{statement}
 use Rattle.server_session.proofs.ServerSession.answer_at.Tie as tie

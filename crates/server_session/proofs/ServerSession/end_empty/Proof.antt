@@ -6,7 +6,8 @@ use lib.ListN.{length}
 use borrow.Author.Needs.{needs}
 use Rattle.wire.proofs.PutLaws.{put-none}
 use Rattle.server_session.specs.Bytes.{withLine}
-use Rattle.server_session.proofs.ByteLaws.{empty-none, empty-last, take-cut}
+use Rattle.wire.proofs.ListLaws.{take-cut}
+use Rattle.server_session.proofs.ByteLaws.{empty-none, empty-last}
 use Rattle.server_session.specs.declared.Phase.the-variants.{ObdCommand}
 use Rattle.server_session.specs.Session.{session}
 use Rattle.server_session.proofs.ServerSession.end_empty.Statement.{statement}

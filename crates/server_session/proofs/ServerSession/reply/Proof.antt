@@ -5,7 +5,7 @@ use lib.ListN.{take, length-take}
 use borrow.Author.Tests.{not-true, not-false}
 use borrow.Author.Needs.{needs}
 use Rattle.server_session.specs.Replies.{replySays}
-use Rattle.server_session.proofs.ByteLaws.{take-cut}
+use Rattle.wire.proofs.ListLaws.{take-cut}
 use Rattle.server_session.proofs.ReplyLaws.{reply-malformed, reply-small, reply-none, reply-some}
 use Rattle.client_state.specs.Settings.{settings, withLast}
 use Rattle.server_session.proofs.ServerSession.reply.Statement.{statement}
