@@ -1,15 +1,14 @@
 -- Laws of the code's steps: each does what is said, from a position of the out buffer on.
 use mathlib.Core.Path.{_≡_, refl, sym, ap, _∙_}
-use mathlib.Core.Bool.{Bool, true, false, cond}
+use mathlib.Core.Bool.{Bool, true, false}
 use mathlib.Core.List.{List, [], _∷_, _++_}
-use Prim.Native.Nat.{ℕ, _+_, _-_, _≤_, _<_}
+use Prim.Native.Nat.{ℕ, _+_, _≤_, _<_}
 use native.Mathlib.Numerals.{add-one}
 use native.Mathlib.Omega.{arith}
 use lib.ListN.{length, take, set, length-take}
 use lib.Seq.{take-suc-set}
-use Rattle.wire.specs.Answer.{Answer, refused}
+use Rattle.wire.specs.Answer.{result, refused}
 use Rattle.wire.specs.Put.{Put}
-use Rattle.wire.specs.Text.{ascii, begins}
 use Rattle.wire.proofs.PutLaws.{put-none, put-then, put-whole}
 use Rattle.server_session.specs.declared.Phase.{Phase}
 use Rattle.server_session.specs.declared.Phase.the-variants as phase
@@ -17,11 +16,11 @@ use Rattle.server_session.specs.declared.ServerSession.{ServerSession}
 use Rattle.server_session.specs.declared.ByteAnswer.{ByteAnswer}
 use Rattle.server_session.specs.declared.ByteAnswer.the-variants as answer
 use Rattle.server_session.specs.declared.ByteStep.{ByteStep}
-use Rattle.server_session.specs.Session.{Session, session, Said, saying, lent}
+use Rattle.server_session.specs.Session.{session, Said, saying, lent}
 use Rattle.server_session.specs.Bytes.{canonical, byteNumber, withLine, echoed, commandPhase, emptyLine, lineEnd, byteTaken, byteSays, byteAnswer, byteServed}
 use Rattle.server_session.specs.Steps.{Does, numbered, goesOn}
 use Rattle.wire.proofs.ListLaws.{take-cut}
-use Rattle.server_session.proofs.ByteLaws.{no-length, Open, number-none, numbered-on, numbered-off, says-refused, line-empty, line-command, afterText, taken-cr, taken-lf, taken-plain}
+use Rattle.server_session.proofs.ByteLaws.{number-none, numbered-on, numbered-off, says-refused, line-empty, line-command, afterText, taken-cr, taken-lf, taken-plain}
 
 -- a text is put, and a step goes on after it
 pub does-after : {d : Said Phase} {e out o₁ left : List ℕ} {at a : ℕ} {r : ByteStep} → Put out at e a o₁ → Does d o₁ a r left → Does (afterText e d) out at r left
@@ -57,15 +56,14 @@ module _ (self : ServerSession) (line : List ℕ) (n size : ℕ) (q : size ≡ l
     handed : lineEnd (session self) [] (take n line) ≡ saying (commandPhase (take n line)) (withLine (session self) (take n line) (commandPhase (take n line))) []
     handed = line-command (session self) [] (take n line) (λ e. omega (arith, length-take n line))
 
-    pub end-at : begins (take n line) (ascii "AT") ≡ true →
-        Does (lineEnd (session self) [] (canonical (session self .line))) out at
-        (record { answer = answer.AtCommand; written = at; session = record { state = self .state; line = line; len = n; phase = phase.AtCommand } }) out
-    end-at e = rw (← command, handed, e) (record { answer = refl; next = refl; text = put-none out at })
-
-    pub end-obd : begins (take n line) (ascii "AT") ≡ false →
-        Does (lineEnd (session self) [] (canonical (session self .line))) out at
-        (record { answer = answer.ObdCommand; written = at; session = record { state = self .state; line = line; len = n; phase = phase.ObdCommand } }) out
-    end-obd e = rw (← command, handed, e) (record { answer = refl; next = refl; text = put-none out at })
+    pub end-command : (a : ByteAnswer) (p : Phase) → byteAnswer a ≡ result p → commandPhase (take n line) ≡ p →
+        Does
+        (lineEnd (session self) [] (canonical (session self .line)))
+        out
+        at
+        (record { answer = a; written = at; session = record { state = self .state; line = line; len = n; phase = p } })
+        out
+    end-command a p q e = rw (← command, handed, e) (record { answer = q; next = refl; text = put-none out at })
 
 -- a byte that gets no number, its echo written
 module _ (self : ServerSession) (b : ℕ) {out o₁ : List ℕ} {at end : ℕ} (p : Put out at (echoed (session self) b) end o₁) where
