@@ -2,34 +2,22 @@
 use mathlib.Core.Path.{_≡_, refl, sym, ap, _∙_}
 use mathlib.Core.Bool.{Bool, true, false, cond, _&&_, not}
 use mathlib.Core.List.{List, [], _∷_, _++_, append-nil}
-use Prim.Native.Nat.{ℕ, zero, suc, _+_, _-_, _≤_, _<_}
-use native.Mathlib.Numerals.{add-one}
+use Prim.Native.Nat.{ℕ, zero, suc, _≤_, _<_}
 use native.Mathlib.Omega.{arith}
 use lib.Dec.{eqb, ltb, leb, lit≤}
-use lib.ListN.{length, take, set, length-append, length-take}
-use lib.Seq.{sets, take-suc-set}
+use lib.ListN.{length, take, length-append}
 use borrow.Author.Tests.{eqb-true, eqb-false, eq-eqb, ne-eqb, ltb-false, le-ltb, leb-false, lt-leb}
-use Rattle.wire.specs.Answer.{Answer, result, refused}
-use Rattle.wire.specs.Put.{Put}
-use Rattle.wire.specs.Text.{ascii, begins}
+use Rattle.wire.specs.Text.{ascii}
 use Rattle.wire.proofs.Cases.{by-test, from-no}
-use Rattle.wire.proofs.PutLaws.{put-none, put-then, put-whole}
 use Rattle.reply.specs.Shape.{chipReply}
 use Rattle.server_session.specs.declared.Phase.{Phase}
 use Rattle.server_session.specs.declared.Phase.the-variants.{Reading, AtCommand, ObdCommand}
-use Rattle.server_session.specs.declared.ServerSession.{ServerSession}
-use Rattle.server_session.specs.declared.ByteAnswer.{ByteAnswer}
-use Rattle.server_session.specs.declared.ByteStep.{ByteStep}
-use Rattle.server_session.specs.Session.{Session, session, isReading, Said, saying, refusing, lent}
-use Rattle.server_session.specs.Bytes.{canonical, byteNumber, withLine, echoes, echoed, commandPhase, emptyLine, lineEnd, byteTaken, byteSays, byteAnswer, byteServed}
+use Rattle.server_session.specs.Session.{Session, isReading, Said, saying, refusing}
+use Rattle.server_session.specs.Bytes.{canonical, byteNumber, withLine, echoed, commandPhase, emptyLine, lineEnd, byteTaken, byteSays}
 use Rattle.server_session.specs.Steps.{numbered, goesOn}
 use Rattle.server_session.proofs.LineLaws.{and-false}
 
 -- Lists
-
-pub no-length : (l : List ℕ) → length l ≡ 0 → l ≡ []
-no-length [] e = refl
-no-length (x ∷ l) e = absurd (omega arith)
 
 -- a count past the end may be cut to it
 pub take-cut : (n : ℕ) (l : List ℕ) → take (length (take n l)) l ≡ take n l

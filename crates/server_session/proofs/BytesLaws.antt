@@ -2,20 +2,22 @@
 use mathlib.Core.Path.{_≡_, refl, sym, ap, _∙_}
 use mathlib.Core.Bool.{Bool, true, false, cond, _||_}
 use mathlib.Core.List.{List, [], _∷_, _++_, append-nil, append-assoc}
-use Prim.Native.Nat.{ℕ, zero, suc, _+_, _-_, _≤_, _<_}
+use Prim.Native.Nat.{ℕ, suc, _+_, _-_, _≤_, _<_}
 use native.Mathlib.Nat.{zero-add, sub-zero, suc-add}
 use native.Mathlib.Omega.{arith}
 use lib.Dec.{eqb, leb, lit≤}
 use lib.ListN.{length, length-append}
-use borrow.Author.Tests.{eqb-true, eqb-false, leb-false, le-ltb, lt-leb, ne-eqb, eq-eqb}
+use borrow.Author.Tests.{eqb-true, eqb-false, leb-false}
 use Rattle.wire.specs.Answer.{Answer, result, refused}
 use Rattle.wire.specs.Text.{ascii, begins, any}
 use Rattle.reply.specs.Shape.{chipReply}
 use Rattle.wire.proofs.Cases.{by-test, from-no}
 use Rattle.server_session.specs.declared.Phase.{Phase}
 use Rattle.server_session.specs.declared.Phase.the-variants.{Reading, AtCommand, ObdCommand}
-use Rattle.server_session.specs.Session.{Session, Said, saying, refusing}
-use Rattle.server_session.specs.Bytes.{canonical, byteNumber, withLine, echoes, echoed, commandPhase, emptyLine, lineEnd, byteTaken, byteSays, Heard, onward, stopOr, bytesSay}
+use Rattle.server_session.specs.declared.ByteStep.{ByteStep}
+use Rattle.server_session.specs.declared.BytesStep.{BytesStep}
+use Rattle.server_session.specs.Session.{Session, Said, saying, Served, lent}
+use Rattle.server_session.specs.Bytes.{canonical, byteNumber, withLine, echoes, echoed, commandPhase, emptyLine, lineEnd, byteTaken, byteSays, byteServed, Heard, onward, stopOr, bytesSay, ServedBytes, bytesServed, lentBytes}
 use Rattle.server_session.specs.Steps.{goesOn, counted, isSpecial}
 use Rattle.server_session.proofs.LineLaws.{or-none}
 use Rattle.server_session.proofs.ByteLaws.{number-open, says-taken, says-refused, empty-none, empty-last, line-command, taken-cr, taken-lf, taken-plain, text-short}
@@ -222,3 +224,16 @@ pub line-says : (text rest : List ℕ) (s : Session) (room : ℕ) → any isSpec
 line-says text rest s room p t h f k =
     bytes-run text (13 ∷ rest) s room p t h f ∙
     rw (cr-command rest (withLine s (s .line ++ text) Reading) (room - length (echoes s text)) refl (omega arith) k, ← echo-append (s .state .echo) text (13 ∷ []))
+
+-- What the contracts give a caller of `byte` and `bytes`: the bytes to send stand inside the lent buffer, and those taken inside the input.
+pub byte-written : (s : Session) (b : ℕ) (out left : List ℕ) (r : ByteStep) → byteServed r left ≡ lent (byteSays (length out) s b) out → (r .written ≤ 8) × (r .written ≤ length out)
+byte-written s b out left r e =
+    let w : r .written ≡ length (byteSays (length out) s b .text) = ap (λ (x : Served Phase). x .written) e in
+    rw w (text-short (length out) s b)
+
+pub bytes-written : (s : Session) (input out left : List ℕ) (r : BytesStep) → bytesServed r left ≡ lentBytes (bytesSay (length out) s input) out →
+    (r .written ≤ length out) × (r .taken ≤ length input)
+bytes-written s input out left r e =
+    let w : r .written ≡ length (bytesSay (length out) s input .text) = ap (λ (x : ServedBytes). x .written) e in
+    let t : r .taken ≡ bytesSay (length out) s input .taken = ap (λ (x : ServedBytes). x .taken) e in
+    rw (w, t) (bytes-fit input s (length out))

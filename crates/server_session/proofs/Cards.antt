@@ -1,14 +1,11 @@
 -- Bench cards of document 01 that speak of a server's bytes, computed.
 use mathlib.Core.Path.{_≡_, refl}
-use mathlib.Core.Bool.{true, false}
-use mathlib.Core.List.{List, [], _∷_, _++_}
-use Prim.Native.Nat.{ℕ}
-use lib.ListN.{length, replicate}
-use Rattle.wire.specs.Answer.{result, refused}
-use Rattle.wire.specs.Text.{ascii}
+use mathlib.Core.List.{[], _∷_}
+use lib.ListN.{replicate}
+use Rattle.wire.specs.Answer.{refused}
 use Rattle.server_session.specs.declared.Phase.the-variants.{Reading}
-use Rattle.server_session.specs.Session.{Session, freshSession, saying, lent}
-use Rattle.server_session.specs.Bytes.{isSpace, raised, canonical, byteNumber, byteTaken, byteSays, Heard, bytesSay}
+use Rattle.server_session.specs.Session.{freshSession, saying}
+use Rattle.server_session.specs.Bytes.{canonical, byteNumber, byteTaken, byteSays, Heard, bytesSay}
 
 -- card 10: a fresh server, CR: CR, `?` CR LF CR LF `>`
 pub card-10 : byteSays 8 freshSession 13 ≡ saying Reading freshSession (13 ∷ 63 ∷ 13 ∷ 10 ∷ 13 ∷ 10 ∷ 62 ∷ [])

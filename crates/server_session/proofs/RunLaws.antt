@@ -1,28 +1,27 @@
 -- Laws of the loop over several bytes: a run, and the byte after it, leave what is still to be said.
 use mathlib.Core.Path.{_≡_, refl, sym, ap, _∙_}
-use mathlib.Core.Bool.{Bool, true, false, cond, _||_}
+use mathlib.Core.Bool.{Bool, true, false, cond}
 use mathlib.Core.List.{List, [], _∷_, _++_, append-nil, append-assoc}
-use Prim.Native.Nat.{ℕ, zero, suc, _+_, _-_, _≤_, _<_}
-use native.Mathlib.Nat.{zero-add, add-zero, sub-zero}
+use Prim.Native.Nat.{ℕ, suc, _+_, _-_, _≤_, _<_}
+use native.Mathlib.Nat.{zero-add, add-zero}
 use native.Mathlib.Numerals.{add-one}
 use native.Mathlib.Omega.{arith}
 use lib.Dec.{eqb}
 use lib.ListN.{length, take, drop, getD, set, length-append, length-take, length-drop, take-append-drop, drop-of-length-le}
 use lib.Seq.{sets, take-suc, take-suc-set, getD-drop, drop-drop, drop-cons}
 use borrow.Author.Tests.{eqb-true, eqb-false}
-use Rattle.wire.specs.Answer.{Answer, result, refused}
+use Rattle.wire.specs.Answer.{result}
 use Rattle.wire.specs.Put.{Put}
 use Rattle.wire.specs.Text.{any}
-use Rattle.wire.proofs.Cases.{by-test, from-no}
+use Rattle.wire.proofs.Cases.{by-test}
 use Rattle.wire.proofs.PutLaws.{put-none, put-then, put-whole, put-length, put-inside}
 use Rattle.server_session.specs.declared.Phase.{Phase}
-use Rattle.server_session.specs.declared.Phase.the-variants.{Reading, AtCommand, ObdCommand}
 use Rattle.server_session.specs.declared.ServerSession.{ServerSession}
 use Rattle.server_session.specs.declared.ByteAnswer.{ByteAnswer}
 use Rattle.server_session.specs.declared.ByteStep.{ByteStep}
 use Rattle.server_session.specs.declared.Run.{Run}
 use Rattle.server_session.specs.Session.{Session, session, isReading, Said}
-use Rattle.server_session.specs.Bytes.{withLine, echoes, byteSays, byteAnswer, Heard, onward, bytesSay, ServedBytes, bytesServed, lentBytes}
+use Rattle.server_session.specs.Bytes.{withLine, echoes, byteSays, byteAnswer, Heard, bytesSay, ServedBytes, bytesServed, lentBytes}
 use Rattle.server_session.specs.Steps.{Does, goesOn, counted, isSpecial, RunFits, Ran}
 use Rattle.server_session.proofs.LineLaws.{or-none}
 use Rattle.server_session.proofs.ByteLaws.{take-cut, reading, text-short}

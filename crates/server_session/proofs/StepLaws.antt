@@ -1,13 +1,13 @@
 -- Laws of the code's steps: each does what is said, from a position of the out buffer on.
 use mathlib.Core.Path.{_≡_, refl, sym, ap, _∙_}
-use mathlib.Core.Bool.{Bool, true, false, cond}
+use mathlib.Core.Bool.{Bool, true, false}
 use mathlib.Core.List.{List, [], _∷_, _++_}
-use Prim.Native.Nat.{ℕ, _+_, _-_, _≤_, _<_}
+use Prim.Native.Nat.{ℕ, _+_, _≤_, _<_}
 use native.Mathlib.Numerals.{add-one}
 use native.Mathlib.Omega.{arith}
 use lib.ListN.{length, take, set, length-take}
 use lib.Seq.{take-suc-set}
-use Rattle.wire.specs.Answer.{Answer, refused}
+use Rattle.wire.specs.Answer.{refused}
 use Rattle.wire.specs.Put.{Put}
 use Rattle.wire.specs.Text.{ascii, begins}
 use Rattle.wire.proofs.PutLaws.{put-none, put-then, put-whole}
@@ -17,10 +17,10 @@ use Rattle.server_session.specs.declared.ServerSession.{ServerSession}
 use Rattle.server_session.specs.declared.ByteAnswer.{ByteAnswer}
 use Rattle.server_session.specs.declared.ByteAnswer.the-variants as answer
 use Rattle.server_session.specs.declared.ByteStep.{ByteStep}
-use Rattle.server_session.specs.Session.{Session, session, Said, saying, lent}
+use Rattle.server_session.specs.Session.{session, Said, saying, lent}
 use Rattle.server_session.specs.Bytes.{canonical, byteNumber, withLine, echoed, commandPhase, emptyLine, lineEnd, byteTaken, byteSays, byteAnswer, byteServed}
 use Rattle.server_session.specs.Steps.{Does, numbered, goesOn}
-use Rattle.server_session.proofs.ByteLaws.{no-length, take-cut, Open, number-none, numbered-on, numbered-off, says-refused, line-empty, line-command, afterText, taken-cr, taken-lf, taken-plain}
+use Rattle.server_session.proofs.ByteLaws.{take-cut, number-none, numbered-on, numbered-off, says-refused, line-empty, line-command, afterText, taken-cr, taken-lf, taken-plain}
 
 -- a text is put, and a step goes on after it
 pub does-after : {d : Said Phase} {e out o₁ left : List ℕ} {at a : ℕ} {r : ByteStep} → Put out at e a o₁ → Does d o₁ a r left → Does (afterText e d) out at r left
