@@ -7,9 +7,8 @@ use native.Mathlib.Numerals.{add-one}
 use native.Mathlib.Omega.{arith}
 use lib.ListN.{length, take, set, length-take}
 use lib.Seq.{take-suc-set}
-use Rattle.wire.specs.Answer.{refused}
+use Rattle.wire.specs.Answer.{result, refused}
 use Rattle.wire.specs.Put.{Put}
-use Rattle.wire.specs.Text.{ascii, begins}
 use Rattle.wire.proofs.PutLaws.{put-none, put-then, put-whole}
 use Rattle.server_session.specs.declared.Phase.{Phase}
 use Rattle.server_session.specs.declared.Phase.the-variants as phase
@@ -56,15 +55,14 @@ module _ (self : ServerSession) (line : List ℕ) (n size : ℕ) (q : size ≡ l
     handed : lineEnd (session self) [] (take n line) ≡ saying (commandPhase (take n line)) (withLine (session self) (take n line) (commandPhase (take n line))) []
     handed = line-command (session self) [] (take n line) (λ e. omega (arith, length-take n line))
 
-    pub end-at : begins (take n line) (ascii "AT") ≡ true →
-        Does (lineEnd (session self) [] (canonical (session self .line))) out at
-        (record { answer = answer.AtCommand; written = at; session = record { state = self .state; line = line; len = n; phase = phase.AtCommand } }) out
-    end-at e = rw (← command, handed, e) (record { answer = refl; next = refl; text = put-none out at })
-
-    pub end-obd : begins (take n line) (ascii "AT") ≡ false →
-        Does (lineEnd (session self) [] (canonical (session self .line))) out at
-        (record { answer = answer.ObdCommand; written = at; session = record { state = self .state; line = line; len = n; phase = phase.ObdCommand } }) out
-    end-obd e = rw (← command, handed, e) (record { answer = refl; next = refl; text = put-none out at })
+    pub end-command : (a : ByteAnswer) (p : Phase) → byteAnswer a ≡ result p → commandPhase (take n line) ≡ p →
+        Does
+        (lineEnd (session self) [] (canonical (session self .line)))
+        out
+        at
+        (record { answer = a; written = at; session = record { state = self .state; line = line; len = n; phase = p } })
+        out
+    end-command a p q e = rw (← command, handed, e) (record { answer = q; next = refl; text = put-none out at })
 
 -- a byte that gets no number, its echo written
 module _ (self : ServerSession) (b : ℕ) {out o₁ : List ℕ} {at end : ℕ} (p : Put out at (echoed (session self) b) end o₁) where

@@ -1,9 +1,11 @@
 -- `server_session::ServerSession::end_line` meets its contract.
-use mathlib.Core.Path.{_≡_, sym, _∙_}
+use mathlib.Core.Path.{_≡_, refl, sym, _∙_}
 use native.Mathlib.Omega.{arith}
 use lib.ListN.{length, length-take}
 use borrow.Author.Needs.{needs}
-use Rattle.server_session.proofs.StepLaws.{end-empty, end-at, end-obd}
+use Rattle.server_session.specs.declared.ByteAnswer.the-variants as answer
+use Rattle.server_session.specs.declared.Phase.the-variants as phase
+use Rattle.server_session.proofs.StepLaws.{end-empty, end-command}
 use Rattle.server_session.proofs.ServerSession.end_line.Statement.{statement}
 use Rattle.server_session.proofs.ServerSession.end_line.Tie as tie
 
@@ -26,10 +28,10 @@ is-at-requires : tie.Need-is-at-requires
 is-at-requires c κs = search needs
 
 returns-2 : tie.Need-returns-2
-returns-2 c = end-at (c .before .before .before .before .before .before .before .before .before .before .args .self) _ _ _ (c .before .before .before .before .before .before .before .command-size .ensures) (c .before .before .before .before .before .make-canonical .ensures .0) (c .before .before .before .before .before .make-canonical .ensures .1) (c .before .before .before .before .if1 .left) _ _ (sym (c .before .is-at .ensures) ∙ c .if2 .taken)
+returns-2 c = end-command (c .before .before .before .before .before .before .before .before .before .before .args .self) _ _ _ (c .before .before .before .before .before .before .before .command-size .ensures) (c .before .before .before .before .before .make-canonical .ensures .0) (c .before .before .before .before .before .make-canonical .ensures .1) (c .before .before .before .before .if1 .left) _ _ answer.AtCommand phase.AtCommand refl (rw (sym (c .before .is-at .ensures) ∙ c .if2 .taken))
 
 returns-3 : tie.Need-returns-3
-returns-3 c = end-obd (c .before .before .before .before .before .before .before .before .before .before .args .self) _ _ _ (c .before .before .before .before .before .before .before .command-size .ensures) (c .before .before .before .before .before .make-canonical .ensures .0) (c .before .before .before .before .before .make-canonical .ensures .1) (c .before .before .before .before .if1 .left) _ _ (sym (c .before .is-at .ensures) ∙ c .if2 .left)
+returns-3 c = end-command (c .before .before .before .before .before .before .before .before .before .before .args .self) _ _ _ (c .before .before .before .before .before .before .before .command-size .ensures) (c .before .before .before .before .before .make-canonical .ensures .0) (c .before .before .before .before .before .make-canonical .ensures .1) (c .before .before .before .before .if1 .left) _ _ answer.ObdCommand phase.ObdCommand refl (rw (sym (c .before .is-at .ensures) ∙ c .if2 .left))
 
 pub end-line-spec : {M : Type 1} → statement M
 end-line-spec =
