@@ -5,3 +5,4 @@ pub mod CountLaws
 pub mod LineLaws
 pub mod SizeLaws
 pub mod ReadLaws
+pub mod Cards
