@@ -2,3 +2,4 @@ pub mod Session
 pub mod Start
 pub mod Piece
 pub mod Finish
+pub mod Steps

@@ -2,21 +2,27 @@
 -- the next into its out buffer." "a `?` in its reply turns repeat to No and the full query follows, written by the call whose piece completed that reply; any
 -- other reply turns Unknown to Yes." "While the ATZ answer is awaited, 7 to 9 are not given for reads: any piece, an empty one or a failed read is dropped, as in
 -- Rust; a failed write there ends the initialisation with 7 and changes nothing else."
-use mathlib.Core.Bool.{Bool, true, false, cond, _&&_}
+use mathlib.Core.Bool.{Bool, true, false, cond}
 use mathlib.Core.List.{List, [], _∷_, _++_}
 use Prim.Native.Nat.{ℕ, zero, suc, _+_}
-use lib.Dec.{eqb, ltb, leb}
+use lib.Dec.{eqb, ltb}
 use lib.ListN.{length, take}
 use lib.Seq.{sets}
 use Rattle.wire.specs.Answer.{Answer, result, refused}
-use Rattle.wire.specs.Text.{ascii, has, high}
+use Rattle.wire.specs.Text.{has, high}
+use Rattle.client_command.specs.Commands.{setupText}
+use Rattle.client_command.specs.declared.FramingEffect.{FramingEffect}
+use Rattle.client_command.specs.declared.FramingEffect.the-variants as effect
 use Rattle.client_session.specs.declared.FeatureSupport.{FeatureSupport}
 use Rattle.client_session.specs.declared.FeatureSupport.the-variants as support
-use Rattle.client_session.specs.declared.FramingEffect.{FramingEffect}
-use Rattle.client_session.specs.declared.FramingEffect.the-variants as effect
 use Rattle.client_session.specs.declared.Under.{Under}
 use Rattle.client_session.specs.declared.Under.the-variants as under
-use Rattle.client_session.specs.Session.{Query, Known, Client, Said, saying, refusing, withUnder, withKnown, withLast, withFraming, withRepeat, withMulti}
+use Rattle.client_session.specs.declared.PieceAnswer.{PieceAnswer}
+use Rattle.client_session.specs.declared.PieceAnswer.the-variants as answer
+use Rattle.client_session.specs.declared.PieceStep.{PieceStep}
+use Rattle.client_session.specs.declared.Failure.{Failure}
+use Rattle.client_session.specs.declared.Failure.the-variants as failure
+use Rattle.client_session.specs.Session.{Query, Known, Client, client, Said, saying, refusing, Served, lent, withUnder, withKnown, withLast, withFraming, withRepeat, withMulti}
 
 -- How far an awaited reply has come.
 pub data Progress : Type 0 where
@@ -29,46 +35,37 @@ pub data Progress : Type 0 where
   -- a query's reply is complete
   complete : Progress
 
--- the first number of a piece before its bytes are looked at: 1, 3 over the limit, 6 for room under 80 or a store under 4,096
+-- the first number of an awaited piece before its bytes are looked at: 3 over the limit, 6 for room under 80 or a store under 4,096
 abbrev pub pieceNumber : ℕ → List ℕ → ℕ → ℕ → ℕ
 pieceNumber limit piece room store = cond (ltb limit (length piece)) 3 (cond (ltb room 80) 6 (cond (ltb store 4096) 6 0))
 
--- multi-PID support that is untested becomes m
+-- support that is untested becomes m
 abbrev pub decided : FeatureSupport → FeatureSupport → FeatureSupport
 decided support.Unknown m = m
 decided support.Yes m = support.Yes
 decided support.No m = support.No
 
--- a query or a repeat of `query_pids` is under way
-abbrev pub isSeveral : Under → Query → Bool
-isSeveral under.Nothing q = false
-isSeveral under.Reset q = false
-isSeveral (under.Setup k) q = false
-isSeveral (under.Raw e) q = false
-isSeveral under.Query q = q .several
-isSeveral under.Repeat q = q .several
-isSeveral under.Complete q = q .several
+-- a query of `query_pids` is under way, where several says that the query is such a one
+abbrev pub isSeveral : Under → Bool → Bool
+isSeveral under.Nothing several = false
+isSeveral under.Reset several = false
+isSeveral (under.Setup k) several = false
+isSeveral (under.Raw e) several = false
+isSeveral under.Query several = several
+isSeveral under.Repeat several = several
+isSeveral under.Complete several = several
 
 -- 7, 8 and 9 "end the query or command, forget the last command, leave buffers untouched, and mark untested multi-PID support No in a multi-PID query"
 abbrev pub failedKnown : Bool → Known → Known
 failedKnown several k = withLast (withMulti k (cond several (decided (k .multi) support.No) (k .multi))) []
 
+abbrev pub failedClient : Client → Client
+failedClient c = withUnder (withKnown c (failedKnown (isSeveral (c .under) (c .query .several)) (c .known))) under.Nothing 0
+
 abbrev pub failing : {A : Type 0} → ℕ → Client → Said A
-failing n c = record {
-  answer = refused n;
-  next = withUnder (withKnown c (failedKnown (isSeveral (c .under) (c .query)) (c .known))) under.Nothing 0;
-  text = [];
-}
+failing n c = record { answer = refused n; next = failedClient c; text = [] }
 
--- the commands of the initialisation after ATZ
-abbrev pub setupText : Bool → ℕ → List ℕ
-setupText framing zero = ascii "ATE0\r"
-setupText framing (suc zero) = ascii "ATL0\r"
-setupText framing (suc (suc zero)) = ascii "ATS0\r"
-setupText framing (suc (suc (suc zero))) = ascii "ATSP0\r"
-setupText framing (suc (suc (suc (suc k)))) = cond framing (ascii "ATH1\r") (ascii "ATH0\r")
-
--- the k-th of them goes out; it is a raw command, so it forgets the last command
+-- the k-th command of the initialisation after ATZ goes out; it is a raw command, so it forgets the last command
 abbrev pub sendSetup : Client → ℕ → Said Progress
 sendSetup c k =
     saying sent (withUnder (withKnown c (withLast (c .known) [])) (under.Setup k) 0) (setupText (c .known .wanted) k)
@@ -86,6 +83,13 @@ afterEffect effect.Kept framing = framing
 afterEffect effect.On framing = true
 afterEffect effect.Off framing = false
 
+-- a repeated query is answered by r: with a `?` it goes out in full
+abbrev pub repeatDone : Client → List ℕ → Said Progress
+repeatDone c r =
+    cond (has 63 r)
+    (saying sent (withUnder (withKnown c (withRepeat (c .known) support.No)) under.Query 0) (c .query .text ++ (13 ∷ [])))
+    (saying complete (withUnder (withKnown c (withRepeat (c .known) (decided (c .known .repeat) support.Yes))) under.Complete (length r)) [])
+
 -- a reply r is complete; out of turn nothing is awaited
 abbrev pub completed : Under → Client → List ℕ → Said Progress
 completed under.Nothing c r = refusing 1 c
@@ -94,15 +98,16 @@ completed (under.Setup k) c r = setupDone c k (length r)
 completed (under.Raw e) c r =
     saying over (withUnder (withKnown c (withFraming (c .known) (afterEffect e (c .known .framing)))) under.Nothing (length r)) []
 completed under.Query c r = saying complete (withUnder (withKnown c (withLast (c .known) (c .query .text))) under.Complete (length r)) []
-completed under.Repeat c r =
-    cond (has 63 r)
-    (saying sent (withUnder (withKnown c (withRepeat (c .known) support.No)) under.Query 0) (c .query .text ++ (13 ∷ [])))
-    (saying complete (withUnder (withKnown c (withRepeat (c .known) (decided (c .known .repeat) support.Yes))) under.Complete (length r)) [])
+completed under.Repeat c r = repeatDone c r
 completed under.Complete c r = refusing 1 c
 
 -- the reply so far: what the lent store holds of it, at most 4,096 bytes
 abbrev pub replyIn : Client → List ℕ → List ℕ
 replyIn c store = take (c .got) (take 4096 store)
+
+-- the joined reply r: it is complete once it holds the prompt
+abbrev pub progressed : Under → Client → List ℕ → Said Progress
+progressed u c r = cond (has 62 r) (completed u c r) (saying awaited (withUnder c u (length r)) [])
 
 -- a reply joined with a piece: 7 for an empty piece, 8 past 4,096, 9 for a byte of 80 or more
 unfoldable pub replyTakes : Client → List ℕ → List ℕ → Said Progress
@@ -110,8 +115,7 @@ replyTakes c piece store =
     let r = replyIn c store ++ piece in
     cond (eqb (length piece) 0) (failing 7 c)
     (cond (ltb 4096 (c .got + length piece)) (failing 8 c)
-    (cond (high r) (failing 9 c)
-    (cond (has 62 r) (completed (c .under) c r) (saying awaited (withUnder c (c .under) (length r)) []))))
+    (cond (high r) (failing 9 c) (progressed (c .under) c r)))
 
 abbrev pub numbered : {A : Type 0} → ℕ → Client → Said A → Said A
 numbered n c d = cond (eqb n 0) d (refusing n c)
@@ -129,16 +133,20 @@ pieceUnder under.Complete room c piece store = refusing 1 c
 unfoldable pub pieceSays : ℕ → Client → List ℕ → List ℕ → Said Progress
 pieceSays room c piece store = pieceUnder (c .under) room c piece store
 
--- the store afterwards: an accepted piece is appended, but the dropped answer to ATZ is not
+-- an accepted piece is appended to what the store holds of the reply; a number leaves the store
+abbrev pub appended : Answer Progress → ℕ → List ℕ → List ℕ → List ℕ
+appended (refused n) at piece store = store
+appended (result p) at piece store = sets store at piece
+
+-- the store afterwards: the dropped answer to ATZ is not stored
 abbrev pub stored : Under → Answer Progress → ℕ → List ℕ → List ℕ → List ℕ
-stored u (refused n) at piece store = store
-stored under.Nothing (result p) at piece store = store
-stored under.Reset (result p) at piece store = store
-stored (under.Setup k) (result p) at piece store = sets store at piece
-stored (under.Raw e) (result p) at piece store = sets store at piece
-stored under.Query (result p) at piece store = sets store at piece
-stored under.Repeat (result p) at piece store = sets store at piece
-stored under.Complete (result p) at piece store = store
+stored under.Nothing a at piece store = store
+stored under.Reset a at piece store = store
+stored (under.Setup k) a at piece store = appended a at piece store
+stored (under.Raw e) a at piece store = appended a at piece store
+stored under.Query a at piece store = appended a at piece store
+stored under.Repeat a at piece store = appended a at piece store
+stored under.Complete a at piece store = store
 
 -- a failed write or read, by what is under way
 abbrev pub failureUnder : Under → Bool → Client → Said Progress
@@ -164,3 +172,38 @@ isAwaited under.Complete = false
 -- a failure that the host tells of: 1, then 6 for room under 80
 unfoldable pub failureSays : ℕ → Client → Bool → Said Progress
 failureSays room c write = cond (isAwaited (c .under)) (numbered (cond (ltb room 80) 6 0) c (failureUnder (c .under) write c)) (refusing 1 c)
+
+-- the cases of PieceAnswer, and of Failure
+abbrev pub pieceAnswer : PieceAnswer → Answer Progress
+pieceAnswer answer.Awaited = result awaited
+pieceAnswer answer.Sent = result sent
+pieceAnswer answer.Over = result over
+pieceAnswer answer.Complete = result complete
+pieceAnswer answer.OutOfTurn = refused 1
+pieceAnswer answer.TooLong = refused 3
+pieceAnswer answer.SmallBuffer = refused 6
+pieceAnswer answer.Failed = refused 7
+pieceAnswer answer.TooMuch = refused 8
+pieceAnswer answer.NotAscii = refused 9
+
+abbrev pub isWrite : Failure → Bool
+isWrite failure.Read = false
+isWrite failure.Write = true
+
+abbrev pub pieceServed : PieceStep → List ℕ → Served Progress
+pieceServed r out = record { answer = pieceAnswer (r .answer); written = r .written; next = client (r .session); out = out }
+
+-- A piece as the host sees it: the call with its out buffer, and the store.
+pub record Received : Type 0 where
+  pub served : Served Progress
+  pub store : List ℕ
+
+abbrev pub pieceReceived : PieceStep → List ℕ → List ℕ → Received
+pieceReceived r out store = record { served = pieceServed r out; store = store }
+
+-- what a piece does with the lent buffers
+abbrev pub receiving : Client → Said Progress → List ℕ → List ℕ → List ℕ → Received
+receiving c d piece store out = record { served = lent d out; store = stored (c .under) (d .answer) (c .got) piece store }
+
+abbrev pub pieceLent : Client → List ℕ → List ℕ → List ℕ → Received
+pieceLent c piece store out = receiving c (pieceSays (length out) c piece store) piece store out

@@ -79,9 +79,20 @@ pub record Said (A : Type 0) : Type 0 where
 abbrev pub saying : {A : Type 0} → A → Client → List ℕ → Said A
 saying a c t = record { answer = result a; next = c; text = t }
 
--- a number with the session as it is, and with another
+-- "Unless said otherwise a numbered answer leaves session and buffers untouched."
 abbrev pub refusing : {A : Type 0} → ℕ → Client → Said A
 refusing n c = record { answer = refused n; next = c; text = [] }
+
+-- A call as the host sees it: the answer, how many bytes stand in the lent out buffer, the next session, and the buffer.
+pub record Served (A : Type 0) : Type 0 where
+  pub answer : Answer A
+  pub written : ℕ
+  pub next : Client
+  pub out : List ℕ
+
+-- the bytes to send stand at the front of the lent buffer, and past them it keeps what it held
+abbrev pub lent : {A : Type 0} → Said A → List ℕ → Served A
+lent d out = record { answer = d .answer; written = length (d .text); next = d .next; out = sets out 0 (d .text) }
 
 -- ---- parts of a session changed
 

@@ -1,20 +1,23 @@
 -- Starts. Document 01, client_session.rs: "Initialisation: ATZ, one piece dropped, then ATE0, ATL0, ATS0, ATSP0, and ATH1 or ATH0." "Raw command: CR added
 -- unless it ends in one. Starting one forgets the last command. When complete, ATH1 sets framing, ATH0 or ATZ clears it: exact text in any case".
 -- "If repeat is not No and the query equals the last one, a bare CR goes out".
-use mathlib.Core.Bool.{Bool, true, false, cond, _&&_, _||_, not}
-use mathlib.Core.List.{List, [], _∷_, _++_, map}
-use Prim.Native.Nat.{ℕ, zero, suc, _-_}
-use lib.Dec.{eqb, ltb, leb}
+use mathlib.Core.Bool.{Bool, true, false, cond, _&&_, _||_}
+use mathlib.Core.List.{List, [], _∷_, _++_}
+use Prim.Native.Nat.{ℕ}
+use lib.Dec.{eqb, ltb}
 use lib.ListN.{length}
-use Rattle.wire.specs.Text.{ascii, same, high, raised}
+use Rattle.wire.specs.Answer.{Answer, result, refused}
+use Rattle.wire.specs.Text.{ascii, same, high}
 use Rattle.query.specs.Query.{queryText}
+use Rattle.client_command.specs.Commands.{withCR, framingEffect}
 use Rattle.client_session.specs.declared.FeatureSupport.{FeatureSupport}
 use Rattle.client_session.specs.declared.FeatureSupport.the-variants as support
-use Rattle.client_session.specs.declared.FramingEffect.{FramingEffect}
-use Rattle.client_session.specs.declared.FramingEffect.the-variants as effect
 use Rattle.client_session.specs.declared.Under.{Under}
 use Rattle.client_session.specs.declared.Under.the-variants as under
-use Rattle.client_session.specs.Session.{Query, Known, Client, Said, saying, refusing, withUnder, withKnown, withLast}
+use Rattle.client_session.specs.declared.StartAnswer.{StartAnswer}
+use Rattle.client_session.specs.declared.StartAnswer.the-variants as answer
+use Rattle.client_session.specs.declared.StartStep.{StartStep}
+use Rattle.client_session.specs.Session.{Query, Known, Client, client, Said, saying, refusing, Served, withUnder, withKnown, withLast}
 
 -- "At the client a start needs nothing under way"
 abbrev pub isNothing : Under → Bool
@@ -37,21 +40,6 @@ started number c next text = cond (eqb number 0) (saying tt next text) (refusing
 -- the initialisation: its ATZ is no raw command, and forgets nothing
 unfoldable pub initSays : ℕ → Client → Said (Unit {0})
 initSays room c = started (startNumber c 0 room) c (withUnder c under.Reset 0) (ascii "ATZ\r")
-
--- a raw command's text: CR added unless it ends in one
-abbrev pub withCR : List ℕ → List ℕ
-withCR [] = 13 ∷ []
-withCR (b ∷ []) = cond (eqb b 13) (13 ∷ []) (b ∷ 13 ∷ [])
-withCR (b ∷ c ∷ s) = b ∷ withCR (c ∷ s)
-
--- the command in capitals, compared whole
-abbrev pub isCommand : List ℕ → List ℕ → Bool
-isCommand command text = same (map raised command) text
-
-unfoldable pub framingEffect : List ℕ → FramingEffect
-framingEffect command =
-    cond (isCommand command (ascii "ATH1")) effect.On
-    (cond (isCommand command (ascii "ATH0") || isCommand command (ascii "ATZ")) effect.Off effect.Kept)
 
 -- 3 over 64 bytes, 4 with a byte of 80 or more
 abbrev pub rawNumber : List ℕ → ℕ
@@ -92,3 +80,15 @@ pidsNumber pids = cond (eqb (length pids) 0 || ltb 6 (length pids)) 2 0
 
 unfoldable pub queryPidsSays : ℕ → Client → List ℕ → ℕ → Said (Unit {0})
 queryPidsSays room c pids count = queryStarted (startNumber c (pidsNumber pids) room) c (newQuery pids count true)
+
+-- the cases of StartAnswer
+abbrev pub startAnswer : StartAnswer → Answer (Unit {0})
+startAnswer answer.Sent = result tt
+startAnswer answer.OutOfTurn = refused 1
+startAnswer answer.PidCount = refused 2
+startAnswer answer.TooLong = refused 3
+startAnswer answer.NotAscii = refused 4
+startAnswer answer.SmallBuffer = refused 6
+
+abbrev pub startServed : StartStep → List ℕ → Served (Unit {0})
+startServed r out = record { answer = startAnswer (r .answer); written = r .written; next = client (r .session); out = out }

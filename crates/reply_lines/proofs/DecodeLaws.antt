@@ -11,7 +11,7 @@ use lib.ListN.{length, take, drop, getD, set, length-append, length-take, length
 use lib.Seq.{take-suc-set, take-all, length-take-le}
 use borrow.Author.Tests.{lt-ltb, le-ltb, ltb-false}
 use Rattle.wire.specs.Put.{Put}
-use Rattle.wire.proofs.PutLaws.{put-rest, put-nil}
+use Rattle.wire.proofs.PutLaws.{put-rest, put-nil, put-whole, put-front}
 use Rattle.wire.proofs.Cases.{by-test}
 use Rattle.hex.specs.Read.{hexNumber, kept, pairBytes}
 use Rattle.hex.proofs.All.{All, all-append}
@@ -19,7 +19,9 @@ use Rattle.hex.proofs.ReadLaws.{Below, number-small}
 use Rattle.line_list.specs.Lines.{Line, line}
 use Rattle.reply_lines.specs.Lines.{unspaced}
 use Rattle.reply_lines.specs.Decode.{orZero, textLine}
+use Rattle.reply_lines.specs.Answers.{DecodedAs}
 use Rattle.reply_lines.specs.Steps.{CharAt, HeadOf}
+use Rattle.reply_lines.specs.declared.Decoded.{Decoded}
 use Rattle.reply_lines.specs.declared.Head.{Head}
 use Rattle.reply_lines.proofs.ScanLaws.{unspaced-end, char-at, char-none}
 
@@ -71,7 +73,7 @@ line-framed text (a ∷ b ∷ c ∷ d ∷ e ∷ []) rest q h = rw (q, le-ltb (le
 line-framed text (a ∷ b ∷ c ∷ d ∷ e ∷ f ∷ s) rest q h = absurd (omega arith)
 
 -- by its first characters
-module _ (text : List ℕ) (h : Head) (p : HeadOf text h) (five : length (h .chars) ≡ 5) where
+module _ (text : List ℕ) (h : Head) (p : HeadOf text h) where
   pub head-short : h .len < 5 → textLine true text ≡ line 0 (take (h .len) (h .chars))
   head-short k =
       let q : unspaced text ≡ take (h .len) (h .chars) = p .whole ∙ ap (λ (l : List ℕ). take (h .len) (h .chars) ++ l) (p .short k) ∙ append-nil (take (h .len) (h .chars)) in
@@ -80,8 +82,8 @@ module _ (text : List ℕ) (h : Head) (p : HeadOf text h) (five : length (h .cha
   pub head-framed : 5 ≤ h .len →
       textLine true text ≡ line (suc (orZero (hexNumber (getD (h .chars) 0 0 ∷ getD (h .chars) 1 0 ∷ getD (h .chars) 2 0 ∷ [])))) (pairBytes (unspaced (drop (h .next) text)))
   head-framed k =
-      let t : take (h .len) (h .chars) ≡ h .chars = take-all (h .len) (h .chars) (omega arith) in
-      line-framed text (h .chars) (unspaced (drop (h .next) text)) (p .whole ∙ rw t) five
+      let t : take (h .len) (h .chars) ≡ h .chars = take-all (h .len) (h .chars) (omega (arith, p .five)) in
+      line-framed text (h .chars) (unspaced (drop (h .next) text)) (p .whole ∙ rw t) (p .five)
 
 -- ---- how large a line is
 
@@ -110,8 +112,8 @@ pairs-length (a ∷ b ∷ s) =
     omega (arith, length-append (kept (hexNumber (a ∷ b ∷ []))) (pairBytes s), kept-length (hexNumber (a ∷ b ∷ [])), pairs-length s)
 
 -- its data are no longer than its text
-pub line-length : (framing : Bool) (text : List ℕ) → length (textLine framing text .bytes) ≤ length text
-line-length framing text =
+pub data-fits : (framing : Bool) (text : List ℕ) → length (textLine framing text .bytes) ≤ length text
+data-fits framing text =
     let s = unspaced text in
     by-form (λ l. length (l .bytes) ≤ length text) framing text
     (omega (arith, pairs-length s, unspaced-length text))
@@ -144,9 +146,14 @@ pairs-bytes (a ∷ []) = tt
 pairs-bytes (a ∷ b ∷ s) =
     all-append (λ c. c < 256) (kept (hexNumber (a ∷ b ∷ []))) (pairBytes s) (kept-bytes (hexNumber (a ∷ b ∷ [])) (number-small (a ∷ b ∷ []))) (pairs-bytes s)
 
-pub line-bytes : (framing : Bool) (text : List ℕ) → All (λ c. c < 256) text → All (λ c. c < 256) (textLine framing text .bytes)
-line-bytes framing text a =
+pub data-bytes : (framing : Bool) (text : List ℕ) → All (λ c. c < 256) text → All (λ c. c < 256) (textLine framing text .bytes)
+data-bytes framing text a =
     by-form (λ l. All (λ c. c < 256) (l .bytes)) framing text
     (pairs-bytes (unspaced text))
     (unspaced-bytes text a)
     (λ h. pairs-bytes (drop 5 (unspaced text)))
+
+-- a buffer that has room for a line's data has them at its front
+pub decoded-bytes : {l : Line} {buffer left : List ℕ} {r : Decoded} → DecodedAs l buffer r left → length (l .bytes) ≤ length buffer → (r .len ≡ length (l .bytes)) × (take (r .len) left ≡ l .bytes)
+decoded-bytes {l} {buffer} {left} {r} d h =
+    (omega (arith, put-whole (d .bytes) (omega arith)), put-front (d .bytes) ∙ take-all (length buffer) (l .bytes) h)

@@ -2,3 +2,4 @@ pub mod ScanLaws
 pub mod TurnLaws
 pub mod LineLaws
 pub mod DecodeLaws
+pub mod BackLaws

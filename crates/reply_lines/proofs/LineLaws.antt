@@ -1,6 +1,6 @@
 -- What a step over the lines of a reply says: a walk by `next_line` keeps the lines that are left.
 use mathlib.Core.Path.{_≡_, refl, sym, ap, _∙_}
-use mathlib.Core.Bool.{Bool, true, false}
+use mathlib.Core.Bool.{Bool}
 use mathlib.Core.List.{List, [], _∷_, map}
 use mathlib.Core.Option.{Option, none, some}
 use Prim.Native.Nat.{ℕ, zero, suc, _+_, _-_, _≤_, _<_, min}
@@ -9,17 +9,17 @@ use lib.Dec.{ltb}
 use lib.ListN.{length, take, drop, getD}
 use borrow.Author.Tests.{ltb-true, ltb-false}
 use Rattle.wire.proofs.Cases.{by-test}
-use Rattle.line_list.specs.Lines.{Line}
 use Rattle.reply_lines.specs.Lines.{trimStart, trimmed, stays, textLines}
 use Rattle.reply_lines.specs.Decode.{textLine, replyLines}
 use Rattle.reply_lines.specs.Answers.{lineStep, lineFrom}
 use Rattle.reply_lines.specs.Steps.{toCR}
 use Rattle.reply_lines.specs.declared.LineStep.{LineStep}
 use Rattle.reply_lines.specs.declared.LineStep.the-variants as step
-use Rattle.reply_lines.proofs.TurnLaws.{part, cr-inside, next-after, end-fits, text-part, text-line, text-skip, text-end, from-line, from-skip, from-end}
+use Rattle.reply_lines.proofs.TurnLaws.{part, cr-inside, next-after, text-fits, end-fits, text-part, text-line, text-skip, text-end, from-line, from-skip, from-end}
 
 -- the next line that stays, from position at on
 pub record LineHere (reply : List ℕ) (at start end next : ℕ) : Type 0 where
+  pub starts : at ≤ start
   pub ordered : start ≤ end
   pub inside : end ≤ next
   pub after : at < next
@@ -34,6 +34,7 @@ Found reply at (some p) = LineHere reply at (getD p 0 0) (getD p 1 0) (getD p 2 
 found-past : (reply : List ℕ) (at next : ℕ) → at < next → textLines (drop at reply) ≡ textLines (drop next reply) → (o : Option (List ℕ)) → Found reply next o → Found reply at o
 found-past reply at next h e none f = e ∙ f
 found-past reply at next h e (some p) f = record {
+  starts = omega (arith, f .starts);
   ordered = f .ordered;
   inside = f .inside;
   after = omega (arith, f .after);
@@ -52,6 +53,7 @@ found-turn reply at h rest =
     (λ e.
     rw (from-line reply at cr h refl next refl text refl t refl e)
     (record {
+      starts = omega (arith, text-fits reply at cr h refl text refl);
       ordered = omega arith;
       inside = omega (arith, end-fits reply at cr h refl next refl text refl t refl, cr-inside reply at cr h refl);
       after = k;

@@ -23,6 +23,6 @@ pub record CharAt (text : List ℕ) (at r : ℕ) : Type 0 where
 -- a line's first characters, at most five, with those that are left
 pub record HeadOf (text : List ℕ) (h : Head) : Type 0 where
   pub whole : unspaced text ≡ take (h .len) (h .chars) ++ unspaced (drop (h .next) text)
-  pub few : h .len ≤ 5
+  pub five : length (h .chars) ≡ 5
   pub short : h .len < 5 → unspaced (drop (h .next) text) ≡ []
   pub inside : h .next ≤ length text

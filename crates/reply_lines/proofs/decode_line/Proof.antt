@@ -1,7 +1,7 @@
 -- `reply_lines::decode_line` meets its contract: unframed, too short to be framed, and framed.
-use mathlib.Core.Path.{_≡_, refl}
+use mathlib.Core.Path.{refl}
 use native.Mathlib.Omega.{arith}
-use lib.ListN.{length, length-take}
+use lib.ListN.{length-take}
 use borrow.Author.Tests.{not-true, not-false}
 use borrow.Author.Needs.{needs}
 use Rattle.reply_lines.proofs.DecodeLaws.{line-unframed, head-short, head-framed}
@@ -21,10 +21,10 @@ read-head-requires : tie.Need-read-head-requires
 read-head-requires c κs = search needs
 
 array-share-prefix-chars : tie.Need-array-share-prefix-chars
-array-share-prefix-chars c = let five : length (c .before .before .before .read-head .result .chars) ≡ 5 = search needs in omega (arith, c .before .if2 .taken)
+array-share-prefix-chars c = omega (arith, c .before .before .before .read-head .ensures .five, c .before .if2 .taken)
 
 slice-aggregate-put : tie.Need-slice-aggregate-put
-slice-aggregate-put c = let five : length (c .before .before .before .before .read-head .result .chars) ≡ 5 = search needs in omega (arith, length-take (c .before .before .before .before .read-head .result .len) (c .before .before .before .before .read-head .result .chars), c .before .before .if2 .taken)
+slice-aggregate-put c = omega (arith, length-take (c .before .before .before .before .read-head .result .len) (c .before .before .before .before .read-head .result .chars), c .before .before .before .before .read-head .ensures .five, c .before .before .if2 .taken)
 
 put-requires : tie.Need-put-requires
 put-requires c κs = search needs
@@ -33,7 +33,7 @@ same-length-2 : tie.Need-same-length-2
 same-length-2 c = search needs
 
 returns-2 : tie.Need-returns-2
-returns-2 c = let five : length (c .before .before .before .before .before .before .before .read-head .result .chars) ≡ 5 = search needs in rw (not-false (c .before .before .before .before .before .before .before .before .before .before .before .args .framing) (c .before .before .before .before .before .before .before .before .if1 .left), head-short _ _ (c .before .before .before .before .before .before .before .read-head .ensures) five (c .before .before .before .before .before .if2 .taken)) (record { ecu = refl; bytes = c .before .before .put .ensures })
+returns-2 c = rw (not-false (c .before .before .before .before .before .before .before .before .before .before .before .args .framing) (c .before .before .before .before .before .before .before .before .if1 .left), head-short _ _ (c .before .before .before .before .before .before .before .read-head .ensures) (c .before .before .before .before .before .if2 .taken)) (record { ecu = refl; bytes = c .before .before .put .ensures })
 
 put-pairs-requires-2 : tie.Need-put-pairs-requires-2
 put-pairs-requires-2 c κs = search needs
@@ -54,7 +54,7 @@ same-length-3 : tie.Need-same-length-3
 same-length-3 c = search needs
 
 returns-3 : tie.Need-returns-3
-returns-3 c = let five : length (c .before .before .before .before .before .before .before .read-head .result .chars) ≡ 5 = search needs in rw (not-false (c .before .before .before .before .before .before .before .before .before .before .before .args .framing) (c .before .before .before .before .before .before .before .before .if1 .left), head-framed _ _ (c .before .before .before .before .before .before .before .read-head .ensures) five (c .before .before .before .before .before .if2 .left)) (record { ecu = c .ecu-of .ensures; bytes = c .before .before .before .put-pairs2 .ensures })
+returns-3 c = rw (not-false (c .before .before .before .before .before .before .before .before .before .before .before .args .framing) (c .before .before .before .before .before .before .before .before .if1 .left), head-framed _ _ (c .before .before .before .before .before .before .before .read-head .ensures) (c .before .before .before .before .before .if2 .left)) (record { ecu = c .ecu-of .ensures; bytes = c .before .before .before .put-pairs2 .ensures })
 
 pub decode-line-spec : {M : Type 1} → statement M
 decode-line-spec =

@@ -1,0 +1,74 @@
+-- Laws of the commands' texts.
+use mathlib.Core.Path.{_≡_, refl, sym, ap, _∙_}
+use mathlib.Core.Bool.{Bool, true, false, cond}
+use mathlib.Core.List.{List, [], _∷_, _++_, map}
+use Prim.Native.Nat.{ℕ, zero, suc, _+_, _-_, _≤_, _<_}
+use native.Mathlib.Omega.{arith}
+use lib.Dec.{eqb}
+use lib.ListN.{length, drop, getD, length-map, List·getD-map}
+use borrow.Author.Tests.{eq-eqb, ne-eqb}
+use Rattle.wire.specs.Text.{ascii, same, begins, raised}
+use Rattle.wire.proofs.Cases.{by-test}
+use Rattle.wire.proofs.TextLaws.{same-begins, same-long, begins-differ, begins-next}
+use Rattle.client_command.specs.Commands.{withCR, isCommand, setupText}
+
+-- a raw command's text by its last byte, at n
+pub cr-there : (s : List ℕ) (n : ℕ) → length s ≡ n + 1 → getD s n 0 ≡ 13 → withCR s ≡ s
+cr-there [] n h e = absurd (omega arith)
+cr-there (b ∷ []) zero h e = rw (eq-eqb b 13 e, e)
+cr-there (b ∷ []) (suc n) h e = absurd (omega arith)
+cr-there (b ∷ c ∷ s) zero h e = absurd (omega arith)
+cr-there (b ∷ c ∷ s) (suc n) h e = ap (λ t. b ∷ t) (cr-there (c ∷ s) n (omega arith) e)
+
+pub cr-added : (s : List ℕ) (n : ℕ) → length s ≡ n + 1 → (getD s n 0 ≡ 13 → ⊥) → withCR s ≡ s ++ (13 ∷ [])
+cr-added [] n h ne = absurd (omega arith)
+cr-added (b ∷ []) zero h ne = rw (ne-eqb b 13 ne)
+cr-added (b ∷ []) (suc n) h ne = absurd (omega arith)
+cr-added (b ∷ c ∷ s) zero h ne = absurd (omega arith)
+cr-added (b ∷ c ∷ s) (suc n) h ne = ap (λ t. b ∷ t) (cr-added (c ∷ s) n (omega arith) ne)
+
+pub cr-alone : (s : List ℕ) → length s ≡ 0 → withCR s ≡ s ++ (13 ∷ [])
+cr-alone [] e = refl
+cr-alone (b ∷ s) e = absurd (omega arith)
+
+-- a raw command's text has at most one byte more
+pub cr-length : (s : List ℕ) → length (withCR s) ≤ length s + 1
+cr-length [] = omega arith
+cr-length (b ∷ []) = by-test (eqb b 13) (λ e. rw e (omega arith)) (λ e. rw e (omega arith))
+cr-length (b ∷ c ∷ s) = omega (arith, cr-length (c ∷ s))
+
+-- `isCommand` at a position
+raised-at : (s : List ℕ) (i : ℕ) → getD (map raised s) i 0 ≡ raised (getD s i 0)
+unfolding raised
+raised-at s i = List·getD-map raised s i 0
+
+module _ (s t : List ℕ) (i : ℕ) where
+  pub raised-differ : i < length s → i < length t → (raised (getD s i 0) ≡ getD t i 0 → ⊥) → begins (drop i (map raised s)) (drop i t) ≡ false
+  raised-differ h k ne = begins-differ (map raised s) t i (omega (arith, length-map s raised)) k (λ e. ne (sym (raised-at s i) ∙ e))
+
+  pub raised-next : i < length s → i < length t → raised (getD s i 0) ≡ getD t i 0 →
+      begins (drop i (map raised s)) (drop i t) ≡ begins (drop (i + 1) (map raised s)) (drop (i + 1) t)
+  raised-next h k e = begins-next (map raised s) t i (omega (arith, length-map s raised)) k (raised-at s i ∙ e)
+
+pub command-begins : (s t : List ℕ) → length s ≡ length t → isCommand s t ≡ begins (map raised s) t
+command-begins s t h = same-begins (map raised s) t (length-map s raised ∙ h)
+
+pub command-long : (s t : List ℕ) → (length s ≡ length t → ⊥) → isCommand s t ≡ false
+command-long s t ne = same-long (map raised s) t (λ e. ne (sym (length-map s raised) ∙ e))
+
+-- the last command of the initialisation
+pub setup-last : (framing : Bool) (k : ℕ) → 4 ≤ k → setupText framing k ≡ cond framing (ascii "ATH1\r") (ascii "ATH0\r")
+setup-last framing zero h = absurd (omega arith)
+setup-last framing (suc zero) h = absurd (omega arith)
+setup-last framing (suc (suc zero)) h = absurd (omega arith)
+setup-last framing (suc (suc (suc zero))) h = absurd (omega arith)
+setup-last framing (suc (suc (suc (suc k)))) h = refl
+
+-- a command of the initialisation has at most six bytes
+pub setup-length : (framing : Bool) (k : ℕ) → length (setupText framing k) ≤ 6
+setup-length framing zero = omega arith
+setup-length framing (suc zero) = omega arith
+setup-length framing (suc (suc zero)) = omega arith
+setup-length framing (suc (suc (suc zero))) = omega arith
+setup-length true (suc (suc (suc (suc k)))) = omega arith
+setup-length false (suc (suc (suc (suc k)))) = omega arith

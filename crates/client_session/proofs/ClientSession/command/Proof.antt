@@ -1,0 +1,86 @@
+-- `client_session::ClientSession::command` meets its contract.
+use mathlib.Core.Path.{refl, sym, _∙_}
+use native.Mathlib.Omega.{arith}
+use borrow.Author.Tests.{not-true, not-false, lt-ltb, le-ltb}
+use borrow.Author.Needs.{needs}
+use Rattle.client_command.proofs.CommandLaws.{cr-length}
+use Rattle.client_session.specs.declared.Under.the-variants as under
+use Rattle.client_session.proofs.StartLaws.{command-starts}
+use Rattle.client_session.proofs.StepLaws.{does-lent}
+use Rattle.client_session.specs.Session.{client, withUnder}
+use Rattle.client_session.specs.Start.{commandSays}
+use Rattle.client_session.proofs.ClientSession.command.Statement.{statement}
+use Rattle.client_session.proofs.ClientSession.command.Tie as tie
+
+is-nothing-requires : tie.Need-is-nothing-requires
+is-nothing-requires c κs = search needs
+
+unstarted-requires : tie.Need-unstarted-requires
+unstarted-requires c κs = search needs
+
+returns : tie.Need-returns
+unfolding commandSays
+returns c = simp (sym (c .before .before .is-nothing .ensures) ∙ not-true _ (c .before .if1 .taken), c .unstarted .ensures)
+
+unstarted-requires-2 : tie.Need-unstarted-requires-2
+unstarted-requires-2 c κs = search needs
+
+returns-2 : tie.Need-returns-2
+unfolding commandSays
+returns-2 c = simp (sym (c .before .before .before .is-nothing .ensures) ∙ not-false _ (c .before .before .if1 .left), lt-ltb _ _ (c .before .if2 .taken), c .unstarted2 .ensures)
+
+has-high-requires : tie.Need-has-high-requires
+has-high-requires c κs = search needs
+
+unstarted-requires-3 : tie.Need-unstarted-requires-3
+unstarted-requires-3 c κs = search needs
+
+returns-3 : tie.Need-returns-3
+unfolding commandSays
+returns-3 c = simp (sym (c .before .before .before .before .before .is-nothing .ensures) ∙ not-false _ (c .before .before .before .before .if1 .left), le-ltb _ _ (c .before .before .before .if2 .left), sym (c .before .before .has-high .ensures) ∙ c .before .if3 .taken, c .unstarted3 .ensures)
+
+unstarted-requires-4 : tie.Need-unstarted-requires-4
+unstarted-requires-4 c κs = search needs
+
+returns-4 : tie.Need-returns-4
+unfolding commandSays
+returns-4 c = simp (sym (c .before .before .before .before .before .before .is-nothing .ensures) ∙ not-false _ (c .before .before .before .before .before .if1 .left), le-ltb _ _ (c .before .before .before .before .if2 .left), sym (c .before .before .before .has-high .ensures) ∙ c .before .before .if3 .left, lt-ltb _ _ (c .before .if4 .taken), c .unstarted4 .ensures)
+
+put-command-requires : tie.Need-put-command-requires
+put-command-requires c κs = search needs
+
+framing-effect-requires : tie.Need-framing-effect-requires
+framing-effect-requires c κs = search needs
+
+forgetting-requires : tie.Need-forgetting-requires
+forgetting-requires c κs = search needs
+
+moved-requires : tie.Need-moved-requires
+moved-requires c κs = search needs
+
+same-length : tie.Need-same-length
+same-length c = search needs
+
+returns-5 : tie.Need-returns-5
+returns-5 c = rw (command-starts _ (client (c .before .before .before .before .before .before .before .before .before .before .before .before .before .before .before .args .self)) (sym (c .before .before .before .before .before .before .before .before .before .before .before .before .is-nothing .ensures) ∙ not-false _ (c .before .before .before .before .before .before .before .before .before .before .before .if1 .left)) (c .before .before .before .before .before .before .before .if4 .left) (c .before .before .before .before .before .before .before .before .before .before .before .before .before .before .before .args .command .now) (c .before .before .before .before .before .before .before .before .before .before .if2 .left) (sym (c .before .before .before .before .before .before .before .before .before .has-high .ensures) ∙ c .before .before .before .before .before .before .before .before .if3 .left)) (does-lent (record { answer = refl; next = c .moved .ensures ∙ (λ i. withUnder (c .before .forgetting .ensures i) (under.Raw (c .before .before .framing-effect .ensures i)) 0); text = c .before .before .before .before .before .put-command .ensures }) (omega (arith, cr-length (c .before .before .before .before .before .before .before .before .before .before .before .before .before .before .before .args .command .now))))
+
+pub command-spec : {M : Type 1} → statement M
+command-spec =
+    tie.close
+    (tie.spec
+    is-nothing-requires
+    unstarted-requires
+    returns
+    unstarted-requires-2
+    returns-2
+    has-high-requires
+    unstarted-requires-3
+    returns-3
+    unstarted-requires-4
+    returns-4
+    put-command-requires
+    framing-effect-requires
+    forgetting-requires
+    moved-requires
+    same-length
+    returns-5)

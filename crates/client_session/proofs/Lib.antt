@@ -1,0 +1,5 @@
+pub mod StepLaws
+pub mod StartLaws
+pub mod PieceLaws
+pub mod StoreLaws
+pub mod FinishLaws
