@@ -5,4 +5,3 @@ pub mod CountLaws
 pub mod LineLaws
 pub mod SizeLaws
 pub mod ReadLaws
-pub mod Cards

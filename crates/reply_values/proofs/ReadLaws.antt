@@ -4,13 +4,13 @@ use mathlib.Core.Bool.{Bool}
 use mathlib.Core.List.{List, [], _∷_, map}
 use Prim.Native.Nat.{ℕ, _+_, _≤_, _<_, min}
 use native.Mathlib.Omega.{arith}
-use lib.Dec.{ltb, leb}
+use lib.Dec.{leb}
 use lib.ListN.{length, take, length-take}
 use lib.Seq.{take-all}
-use borrow.Author.Tests.{lt-ltb, le-ltb, ltb-false, leb-true, leb-false}
+use borrow.Author.Tests.{lt-ltb, le-ltb, leb-true, leb-false}
 use Rattle.wire.specs.Answer.{result, refused}
 use Rattle.wire.specs.Put.{Put}
-use Rattle.wire.proofs.Cases.{by-test, from-no}
+use Rattle.wire.proofs.Cases.{by-test}
 use Rattle.wire.proofs.PutLaws.{put-length, put-whole, put-front}
 use Rattle.value.specs.Values.{Value, valuesBytes}
 use Rattle.reply_lines.specs.Lines.{textLines}
@@ -113,13 +113,3 @@ module _ (q : Asked) (reply : List ℕ) {end : ℕ} (cut : end ≡ min (length r
       let fits = le-ltb (length out) (length text) (omega (arith, found-size)) in
       (λ i. record { answer = result (c i ∷ all i ∷ g i ∷ []); lengths = after; counts = l i; out = w .bytes i })
       ∙ sym (read-found out ∙ rw fits)
-
--- what was written is inside the lent buffer
-pub read-inside : (q : Asked) (reply out : List ℕ) {count written given : ℕ} → readReply q reply out .answer ≡ result (count ∷ written ∷ given ∷ []) → written ≤ length out
-unfolding readReply
-read-inside q reply out {count} {written} {given} e =
-    let ls = replyLines (q .framing) (take 4096 reply) in
-    let text = valuesBytes (answerOrder (valuesOf (lengthsAfter (q .several) (q .pids) (q .lengths) ls) ls)) in
-    by-test (ltb (length out) (length text))
-    (λ t. let no = rw t at e in from-no cc)
-    (λ t. let yes = rw t at e in let same : length text ≡ written = cc in omega (arith, ltb-false (length out) (length text) t))
