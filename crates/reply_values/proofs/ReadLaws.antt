@@ -2,24 +2,23 @@
 use mathlib.Core.Path.{_≡_, refl, sym, ap, subst, _∙_}
 use mathlib.Core.Bool.{Bool}
 use mathlib.Core.List.{List, [], _∷_, map}
-use Prim.Native.Nat.{ℕ, _+_, _*_, _≤_, _<_, min}
+use Prim.Native.Nat.{ℕ, _+_, _≤_, _<_, min}
 use native.Mathlib.Omega.{arith}
 use lib.Dec.{leb}
 use lib.ListN.{length, take, length-take}
-use lib.Seq.{sets, take-all}
+use lib.Seq.{take-all}
 use borrow.Author.Tests.{lt-ltb, le-ltb, leb-true, leb-false}
-use Rattle.wire.specs.Answer.{Answer, result, refused}
+use Rattle.wire.specs.Answer.{result, refused}
 use Rattle.wire.specs.Put.{Put}
 use Rattle.wire.proofs.Cases.{by-test}
 use Rattle.wire.proofs.PutLaws.{put-length, put-whole, put-front}
-use Rattle.line_list.specs.Lines.{Line}
 use Rattle.value.specs.Values.{Value, valuesBytes}
 use Rattle.reply_lines.specs.Lines.{textLines}
 use Rattle.reply_lines.specs.Decode.{textLine, replyLines}
 use Rattle.reply_lines.proofs.DecodeLaws.{line-ecu}
 use Rattle.reply_values.specs.Values.{valuesOf, answerOrder}
 use Rattle.reply_values.specs.Learn.{lengthsAfter, learnCounts, givenPids}
-use Rattle.reply_values.specs.Read.{Read, Asked, readValues, readLines, readReply}
+use Rattle.reply_values.specs.Read.{Asked, readValues, readLines, readReply}
 use Rattle.reply_values.specs.Steps.{valuesIn}
 use Rattle.reply_values.proofs.InLaws.{values-in}
 use Rattle.reply_values.proofs.SizeLaws.{reply-size}

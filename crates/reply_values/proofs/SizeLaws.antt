@@ -1,9 +1,9 @@
 -- How many bytes the values of a reply take: at most three for each of its characters and one more.
-use mathlib.Core.Path.{_≡_, refl, sym, ap, _∙_}
+use mathlib.Core.Path.{_≡_, refl}
 use mathlib.Core.Bool.{Bool, true, false}
-use mathlib.Core.List.{List, [], _∷_, _++_, map}
+use mathlib.Core.List.{List, [], _∷_, map}
 use mathlib.Core.Option.{Option, none, some}
-use Prim.Native.Nat.{ℕ, zero, suc, _+_, _-_, _*_, _≤_, _<_}
+use Prim.Native.Nat.{ℕ, zero, suc, _+_, _-_, _*_, _≤_}
 use native.Mathlib.Nat.{mul-suc, mul-le-mul}
 use native.Mathlib.Omega.{arith}
 use lib.Dec.{eqb, ltb}
@@ -16,12 +16,11 @@ use Rattle.hex.specs.Read.{hexNumber, kept, pairBytes}
 use Rattle.pid.specs.Lengths.{lengthIn}
 use Rattle.group.specs.Group.{groupBytes}
 use Rattle.group.proofs.GroupLaws.{groupBytes-small, groupBytes-two}
-use Rattle.line_list.specs.Lines.{Line}
 use Rattle.value.specs.Values.{Value, value, valueBytes, valuesBytes}
 use Rattle.value.proofs.ValueLaws.{value-length}
 use Rattle.reply_lines.specs.Lines.{onto, splitCR, trimStart, before, trimEnd, trimmed, stays, staying, textLines, unspaced}
 use Rattle.reply_lines.specs.Decode.{orZero, textLine, replyLines}
-use Rattle.reply_lines.proofs.DecodeLaws.{data-fits, line-ecu}
+use Rattle.reply_lines.proofs.DecodeLaws.{line-ecu}
 use Rattle.reply_values.specs.Values.{spanOf, walk, walked, lineValues, valuesOf}
 use Rattle.reply_values.proofs.WalkLaws.{span-within, bytes-append}
 

@@ -1,9 +1,8 @@
 -- Laws of the values of a line: the first and the others, without counting steps; and of the values of several lines.
 use mathlib.Core.Path.{_≡_, refl, sym, ap, _∙_}
-use mathlib.Core.Bool.{cond}
 use mathlib.Core.List.{List, [], _∷_, _++_, append-assoc}
 use mathlib.Core.Option.{Option, none, some}
-use Prim.Native.Nat.{ℕ, zero, suc, _+_, _-_, _≤_, _<_, min}
+use Prim.Native.Nat.{ℕ, zero, suc, _+_, _-_, _≤_, _<_}
 use native.Mathlib.Numerals.{add-one}
 use native.Mathlib.Omega.{arith}
 use lib.Dec.{eqb}
@@ -118,15 +117,15 @@ abbrev pub FromEcu : ℕ → List Value → Type 0
 FromEcu e [] = Unit {0}
 FromEcu e (v ∷ vs) = (v .ecu ≡ e) × FromEcu e vs
 
-walk-ecu : (f : ℕ) (lengths : List ℕ) (e : ℕ) (s : List ℕ) → FromEcu e (walk f lengths e s)
-walk-ecu zero lengths e s = tt
-walk-ecu (suc f) lengths e [] = tt
-walk-ecu (suc f) lengths e (p ∷ s) = (refl, walk-ecu f lengths e (drop (spanOf (lengthIn lengths p) (length s)) s))
+walk-from : (f : ℕ) (lengths : List ℕ) (e : ℕ) (s : List ℕ) → FromEcu e (walk f lengths e s)
+walk-from zero lengths e s = tt
+walk-from (suc f) lengths e [] = tt
+walk-from (suc f) lengths e (p ∷ s) = (refl, walk-from f lengths e (drop (spanOf (lengthIn lengths p) (length s)) s))
 
-pub line-ecu : (lengths : List ℕ) (e : ℕ) (l : List ℕ) → FromEcu e (lineValues lengths e l)
+pub line-from : (lengths : List ℕ) (e : ℕ) (l : List ℕ) → FromEcu e (lineValues lengths e l)
 unfolding walked
-line-ecu lengths e [] = tt
-line-ecu lengths e (m ∷ s) = by-test (eqb m 0x41) (λ t. rw t (walk-ecu (length s) lengths e s)) (λ t. rw t tt)
+line-from lengths e [] = tt
+line-from lengths e (m ∷ s) = by-test (eqb m 0x41) (λ t. rw t (walk-from (length s) lengths e s)) (λ t. rw t tt)
 
 -- lines whose ECU+1 is at most 4,096
 abbrev pub KnownEcus : List Line → Type 0
@@ -140,4 +139,4 @@ fit-append k (v ∷ vs) ws f h = (omega (arith, f .0), fit-append k vs ws (f .1)
 -- have values that can be read back
 pub values-fit : (lengths : List ℕ) (ls : List Line) → KnownEcus ls → ValuesFit (valuesOf lengths ls)
 values-fit lengths [] h = tt
-values-fit lengths (l ∷ ls) h = fit-append (h .0) (lineValues lengths (l .ecu) (l .bytes)) (valuesOf lengths ls) (line-ecu lengths (l .ecu) (l .bytes)) (values-fit lengths ls (h .1))
+values-fit lengths (l ∷ ls) h = fit-append (h .0) (lineValues lengths (l .ecu) (l .bytes)) (valuesOf lengths ls) (line-from lengths (l .ecu) (l .bytes)) (values-fit lengths ls (h .1))
