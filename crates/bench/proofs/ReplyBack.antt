@@ -1,0 +1,92 @@
+-- The client reads back the lines that the server replied with, in the settings of a framed initialisation: linefeeds and spaces off, headers on. An unknown ECU
+-- comes back as 7E8.
+use mathlib.Core.Path.{_≡_, refl, sym, ap, _∙_}
+use mathlib.Core.Bool.{Bool, true, false}
+use mathlib.Core.List.{List, [], _∷_, _++_, map}
+use Prim.Native.Nat.{ℕ, zero, suc, _≤_, _<_}
+use native.Mathlib.Omega.{arith}
+use lib.ListN.{length}
+use borrow.Author.Tests.{le-ltb}
+use Rattle.wire.specs.Text.{high}
+use Rattle.wire.proofs.All.{Bytes}
+use Rattle.hex.specs.Digits.{hexByte, hexId, hexBytes}
+use Rattle.line_list.specs.Lines.{Line, line, AllFit}
+use Rattle.reply.specs.Shape.{chipReply}
+use Rattle.reply.specs.Reply.{ecuId, furtherHex, dataHex, lineText, replyText}
+use Rattle.reply.proofs.ByteLaws.{reply-low}
+use Rattle.reply_lines.specs.Lines.{textLines}
+use Rattle.reply_lines.specs.Decode.{textLine, replyLines}
+use Rattle.reply_lines.proofs.BackLaws.{plain-line, empty-line, prompt-line, framed-plain, framed-back}
+use Rattle.reply_values.specs.Values.{valuesOf}
+use Rattle.reply_values.specs.Learn.{lengthsAfter}
+use Rattle.client_session.specs.Session.{Client, Said}
+use Rattle.client_session.specs.Piece.{replyIn}
+use Rattle.client_session.specs.Finish.{isComplete, finished, roomFor, finishSays}
+
+-- a line with its ECU known
+abbrev pub known : Line → Line
+known l = line (suc (ecuId (l .ecu))) (l .bytes)
+
+-- the data of every line are bytes
+abbrev pub AllBytes : List Line → Type 0
+AllBytes [] = Unit {0}
+AllBytes (l ∷ ls) = Bytes (l .bytes) × AllBytes ls
+
+further : (s : List ℕ) → furtherHex false s ≡ hexBytes s
+further [] = refl
+further (b ∷ s) = rw (further s)
+
+plainly : (s : List ℕ) → dataHex false s ≡ hexBytes s
+plainly [] = refl
+plainly (b ∷ s) = rw (further s)
+
+-- a line's text with its header and no spaces
+abbrev chars : Line → List ℕ
+chars l = hexId (ecuId (l .ecu)) ++ (hexByte (length (l .bytes)) ++ hexBytes (l .bytes))
+
+some-chars : (l : Line) → 0 < length (chars l)
+some-chars l = omega arith
+
+line-as : (l : Line) → lineText false true l ≡ chars l
+unfolding lineText
+line-as l = rw (plainly (l .bytes))
+
+id-small : (e : ℕ) → e ≤ 4096 → ecuId e < 4096
+id-small zero h = omega arith
+id-small (suc n) h = omega arith
+
+texts : (ls : List Line) → textLines (chipReply false (map (lineText false true) ls)) ≡ map (lineText false true) ls
+texts [] = empty-line (62 ∷ []) ∙ prompt-line
+texts (l ∷ ls) =
+    let rest = chipReply false (map (lineText false true) ls) in
+    ap (λ (t : List ℕ). textLines (t ++ (13 ∷ rest))) (line-as l) ∙
+    plain-line (chars l) rest (framed-plain (ecuId (l .ecu)) (length (l .bytes)) (l .bytes)) (some-chars l) ∙
+    (λ i. sym (line-as l) i ∷ texts ls i)
+
+decoded : (ls : List Line) → AllFit ls → AllBytes ls → map (textLine true) (map (lineText false true) ls) ≡ map known ls
+decoded [] f b = refl
+decoded (l ∷ ls) f b =
+    let one = ap (textLine true) (line-as l) ∙ framed-back (ecuId (l .ecu)) (length (l .bytes)) (l .bytes) (id-small (l .ecu) (f .0 .known)) (b .0) in
+    (λ i. one i ∷ decoded ls (f .1) (b .1) i)
+
+-- what was replied is read back
+pub reply-back : (l : Line) (ls : List Line) → AllFit (l ∷ ls) → AllBytes (l ∷ ls) → replyLines true (replyText false false true (l ∷ ls)) ≡ map known (l ∷ ls)
+unfolding replyText replyLines
+reply-back l ls f b = ap (map (textLine true)) (texts (l ∷ ls)) ∙ decoded (l ∷ ls) f b
+
+-- what a finish makes of a reply's lines
+abbrev finishedWith : ℕ → Client → List Line → Said ℕ
+finishedWith room c ls =
+    let lengths = lengthsAfter (c .query .several) (c .query .pids) (c .known .lengths) ls in
+    roomFor room c (finished c lengths (valuesOf lengths ls))
+
+-- what finish yields for a reply that the server wrote: the values of its lines, each with its ECU known
+pub finish-replied : (room : ℕ) (c : Client) (store : List ℕ) (l : Line) (ls : List Line) → isComplete (c .under) ≡ true → 4096 ≤ length store → c .known .framing ≡ true →
+    replyIn c store ≡ replyText false false true (l ∷ ls) → AllFit (l ∷ ls) → AllBytes (l ∷ ls) → finishSays room c store ≡ finishedWith room c (map known (l ∷ ls))
+unfolding finishSays
+finish-replied room c store l ls turn whole framed r f b =
+    let low : high (replyIn c store) ≡ false = ap high r ∙ reply-low false false true (l ∷ ls) in
+    rw (turn, le-ltb (length store) 4096 whole, low)
+    (ap (λ (s : List ℕ). finishedWith room c (replyLines (c .known .framing) s)) r ∙
+    ap (λ (b : Bool). finishedWith room c (replyLines b (replyText false false true (l ∷ ls)))) framed ∙
+    ap (finishedWith room c) (reply-back l ls f b))
