@@ -5,6 +5,8 @@ use Prim.Native.Nat.{ℕ, zero, suc, _+_, _/_, _%_}
 use lib.Dec.{ltb}
 use Rattle.wire.specs.Text.{ascii}
 use Rattle.hex.specs.Digits.{hexBytes}
+use Rattle.query.specs.declared.EcuCount.{EcuCount}
+use Rattle.query.specs.declared.EcuCount.the-variants.{Any, Given}
 
 -- a number below 1000 in decimal
 abbrev pub decimal : ℕ → List ℕ
@@ -17,6 +19,11 @@ decimal n =
 abbrev pub countText : ℕ → List ℕ
 countText zero = []
 countText (suc n) = 32 ∷ decimal n
+
+-- what an EcuCount says, as such a number
+abbrev pub countOf : EcuCount → ℕ
+countOf Any = 0
+countOf (Given n) = suc n
 
 unfoldable pub queryText : List ℕ → ℕ → List ℕ
 queryText pids count = ascii "01" ++ (hexBytes pids ++ countText count)

@@ -1,7 +1,7 @@
 -- Document 01, client_session.rs: "Framed: id, length byte (compared with nothing), data; a bad id is 000. Under 5 characters: ECU unknown, raw characters as
 -- data." Unframed a line is data alone, its ECU unknown. "Bad pairs and an odd last digit are skipped."
 use mathlib.Core.Bool.{Bool, true, false, cond}
-use mathlib.Core.List.{List, [], _∷_, map}
+use mathlib.Core.List.{List, map}
 use mathlib.Core.Option.{Option, none, some}
 use Prim.Native.Nat.{ℕ, suc}
 use lib.Dec.{ltb}

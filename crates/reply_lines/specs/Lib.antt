@@ -1,3 +1,4 @@
 pub mod Lines
 pub mod Decode
 pub mod Answers
+pub mod Steps

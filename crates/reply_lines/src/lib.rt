@@ -1,8 +1,16 @@
 // The lines of a reply (parse_lines and decode_hex of the Rust's client_session.rs).
+use hex::HexByte;
+use hex::HexId;
 ghost use mathlib.Core.Path.{_≡_};
+ghost use mathlib.Core.List.{[], _∷_};
+ghost use Prim.Native.Nat.{suc, _+_, _≤_, min};
+ghost use lib.ListN.{length, drop};
 ghost use Rattle.wire.specs.Put.{Put};
-ghost use Rattle.reply_lines.specs.Decode.{textLine};
-ghost use Rattle.reply_lines.specs.Answers.{lineStep, lineFrom};
+ghost use Rattle.hex.specs.Read.{hexNumber, kept, pairBytes};
+ghost use Rattle.reply_lines.specs.Lines.{trimStart, trimEnd, stays, unspaced};
+ghost use Rattle.reply_lines.specs.Decode.{orZero, textLine};
+ghost use Rattle.reply_lines.specs.Answers.{lineStep, lineFrom, DecodedAs};
+ghost use Rattle.reply_lines.specs.Steps.{toCR, CharAt, HeadOf};
 
 // The next line of a reply that counts.
 pub enum LineStep {
@@ -19,4 +27,202 @@ pub enum LineStep {
 pub struct Decoded {
     pub ecu: u16,
     pub len: usize,
+}
+
+// Where the first CR stands from position at on, or the end of the reply.
+fn find_cr(reply: &[u8], at: usize) -> usize
+    requires { ⌜ at ≤ length (now reply) ⌝ }
+    ensures { λ r. ⌜ r ≡ at + toCR (drop at (now (reply .entry))) ⌝ }
+{
+    let mut i = at;
+    while i < reply.len() {
+        if reply[i] == 13 {
+            return i;
+        }
+        i += 1;
+    }
+    i
+}
+
+// Where the line after the one that ends at cr starts.
+fn past_cr(reply: &[u8], cr: usize) -> usize
+    requires { ⌜ cr ≤ length (now reply) ⌝ }
+    ensures { λ r. ⌜ r ≡ min (cr + 1) (length (now (reply .entry))) ⌝ }
+{
+    if cr < reply.len() {
+        return cr + 1;
+    }
+    cr
+}
+
+// The part without white space in front.
+fn trim_start(s: &[u8]) -> &[u8]
+    ensures { λ r. ⌜ now r ≡ trimStart (now (s .entry)) ⌝ }
+{
+    let mut i: usize = 0;
+    while i < s.len() {
+        let b = s[i];
+        if !wire::is_space(b) {
+            return &s[i..];
+        }
+        i += 1;
+    }
+    &s[..0]
+}
+
+// The part without white space at its end.
+fn trim_end(s: &[u8]) -> &[u8]
+    ensures { λ r. ⌜ now r ≡ trimEnd (now (s .entry)) ⌝ }
+{
+    let mut end = s.len();
+    while 0 < end {
+        let b = s[end - 1];
+        if !wire::is_space(b) {
+            return &s[..end];
+        }
+        end -= 1;
+    }
+    &s[..0]
+}
+
+// Whether a trimmed line is kept.
+fn stays(text: &[u8]) -> bool
+    ensures { λ r. ⌜ r ≡ stays (now (text .entry)) ⌝ }
+{
+    if text.len() == 0 {
+        return false;
+    }
+    !wire::has(text, b'>')
+}
+
+// The next line that stays, from position at on.
+pub fn next_line(reply: &[u8], at: usize) -> LineStep
+    ensures { λ r. ⌜ lineStep r ≡ lineFrom (now (reply .entry)) at ⌝ }
+{
+    let mut at = at;
+    while at < reply.len() {
+        let cr = find_cr(reply, at);
+        let next = past_cr(reply, cr);
+        let text = trim_start(&reply[at..cr]);
+        let start = cr - text.len();
+        let trimmed = trim_end(text);
+        if stays(trimmed) {
+            return LineStep::Line {
+                start,
+                end: start + trimmed.len(),
+                next,
+            };
+        }
+        at = next;
+    }
+    LineStep::End
+}
+
+// A line's first characters that are no spaces, at most five, and where the rest of it starts.
+struct Head {
+    chars: [u8; 5],
+    len: usize,
+    next: usize,
+}
+
+// Where the next character that is no space stands, from position at on, or the end of the text.
+fn next_char(text: &[u8], at: usize) -> usize
+    requires { ⌜ at ≤ length (now text) ⌝ }
+    ensures { λ r. ⌜ CharAt (now (text .entry)) at r ⌝ }
+{
+    let mut i = at;
+    while i < text.len() {
+        if text[i] != 32 {
+            return i;
+        }
+        i += 1;
+    }
+    i
+}
+
+// The byte of a good pair, from position at on; a bad one is skipped.
+fn put_pair(out: &mut [u8], at: usize, a: u8, b: u8) -> usize
+    ensures { λ r. ⌜ Put (now (out .entry)) at (kept (hexNumber (a ∷ b ∷ []))) r (now (out .exit)) ⌝ }
+{
+    let HexByte::Byte(byte) = hex::hex_pair(a, b) else {
+        return at;
+    };
+    wire::put_byte(out, at, byte)
+}
+
+// The bytes of the pairs of a text from position at on, spaces skipped, stored at the front of out.
+fn put_pairs(out: &mut [u8], text: &[u8], at: usize) -> usize
+    requires { ⌜ at ≤ length (now text) ⌝ }
+    ensures { λ r. ⌜ Put (now (out .entry)) 0 (pairBytes (unspaced (drop at (now (text .entry))))) r (now (out .exit)) ⌝ }
+{
+    let mut len: usize = 0;
+    let mut i = at;
+    while i < text.len() {
+        let a = next_char(text, i);
+        if text.len() <= a {
+            return len;
+        }
+        let b = next_char(text, a + 1);
+        if text.len() <= b {
+            return len;
+        }
+        len = put_pair(out, len, text[a], text[b]);
+        i = b + 1;
+    }
+    len
+}
+
+// The first characters of a line.
+fn read_head(text: &[u8]) -> Head
+    ensures { λ r. ⌜ HeadOf (now (text .entry)) r ⌝ }
+{
+    let mut chars = [0u8; 5];
+    let mut len: usize = 0;
+    let mut next: usize = 0;
+    while len < 5 {
+        let i = next_char(text, next);
+        if text.len() <= i {
+            return Head {
+                chars,
+                len,
+                next: i,
+            };
+        }
+        chars[len] = text[i];
+        len += 1;
+        next = i + 1;
+    }
+    Head { chars, len, next }
+}
+
+// ECU+1 of an id's characters: a bad id is 000.
+fn ecu_of(a: u8, b: u8, c: u8) -> u16
+    ensures { λ r. ⌜ r ≡ suc (orZero (hexNumber (a ∷ b ∷ c ∷ []))) ⌝ }
+{
+    match hex::hex_id(a, b, c) {
+        HexId::Id(id) => id + 1,
+        HexId::Bad => 1,
+    }
+}
+
+// The line of a text; its data are stored at the front of data.
+pub fn decode_line(text: &[u8], framing: bool, data: &mut [u8]) -> Decoded
+    ensures { λ r. ⌜ DecodedAs (textLine framing (now (text .entry))) (now («data» .entry)) r (now («data» .exit)) ⌝ }
+{
+    if !framing {
+        let len = put_pairs(data, text, 0);
+        return Decoded { ecu: 0, len };
+    }
+    let head = read_head(text);
+    let chars = head.chars;
+    let count = head.len;
+    // Too short for id and length byte: its characters are the data.
+    if count < 5 {
+        let len = wire::put(data, 0, &chars[..count]);
+        return Decoded { ecu: 0, len };
+    }
+    let next = head.next;
+    let len = put_pairs(data, text, next);
+    let ecu = ecu_of(chars[0], chars[1], chars[2]);
+    Decoded { ecu, len }
 }

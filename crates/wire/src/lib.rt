@@ -1,7 +1,7 @@
 // Bytes written into lent buffers, and texts looked at. Every writer of this library stores as far as the buffer reaches
 // and returns the position after what it stored, so writers follow one another with nothing asked in between.
 ghost use Rattle.wire.specs.Put.{Put};
-ghost use Rattle.wire.specs.Text.{same, begins, has, high};
+ghost use Rattle.wire.specs.Text.{same, begins, has, high, isSpace};
 ghost use mathlib.Core.List.{[], _∷_};
 ghost use mathlib.Core.Path.{_≡_};
 
@@ -82,4 +82,17 @@ pub fn has_high(s: &[u8]) -> bool
         i += 1;
     }
     false
+}
+
+// 09 to 0D and 20.
+pub fn is_space(b: u8) -> bool
+    ensures { λ r. ⌜ r ≡ isSpace b ⌝ }
+{
+    if b < 9 {
+        return false;
+    }
+    if b <= 13 {
+        return true;
+    }
+    b == 32
 }

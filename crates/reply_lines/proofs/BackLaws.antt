@@ -1,0 +1,91 @@
+-- Lines read back: a text of plain characters that ends in CR is one line of a reply, and capital hex in the framed form decodes to what it was written from.
+use mathlib.Core.Path.{_≡_, refl, ap, _∙_}
+use mathlib.Core.Bool.{true, false, not}
+use mathlib.Core.List.{List, [], _∷_, _++_}
+use Prim.Native.Nat.{ℕ, suc, _≤_, _<_}
+use native.Mathlib.Omega.{arith}
+use lib.Dec.{T, eqb}
+use lib.ListN.{length}
+use borrow.Author.Tests.{le-leb, lt-leb, ne-eqb}
+use Rattle.wire.specs.Text.{has, isSpace}
+use Rattle.wire.proofs.Cases.{at-below}
+use Rattle.hex.specs.Digits.{hexDigit, hexByte, hexId, hexBytes}
+use Rattle.hex.proofs.All.{All, all-append}
+use Rattle.hex.proofs.DigitLaws.{digit-low, digits-all, bytes-all, bytes-back, id-back}
+use Rattle.line_list.specs.Lines.{line}
+use Rattle.reply_lines.specs.Lines.{splitCR, before, trimEnd, trimmed, stays, textLines, unspaced}
+use Rattle.reply_lines.specs.Decode.{textLine}
+use Rattle.reply_lines.proofs.DecodeLaws.{line-framed}
+
+-- a character that no scan over a reply stops at
+abbrev pub Plain : ℕ → Type 0
+Plain c = (33 ≤ c) × (c ≡ 62 → ⊥)
+
+plain-space : (c : ℕ) → 33 ≤ c → isSpace c ≡ false
+unfolding isSpace
+plain-space c h = simp (le-leb 9 c (omega arith), lt-leb c 13 (omega arith), ne-eqb c 32 (omega arith))
+
+plain-split : (s rest : List ℕ) → All Plain s → splitCR (s ++ (13 ∷ rest)) ≡ s ∷ splitCR rest
+plain-split [] rest a = refl
+plain-split (c ∷ s) rest a = let h = a .0 .0 in rw (ne-eqb c 13 (omega arith), plain-split s rest (a .1))
+
+plain-end : (s : List ℕ) → All Plain s → trimEnd s ≡ s
+plain-end [] a = refl
+plain-end (c ∷ s) a = ap (before c) (plain-end s (a .1)) ∙ front s
+  where
+    front : (s : List ℕ) → before c s ≡ c ∷ s
+    front [] = rw (plain-space c (a .0 .0))
+    front (d ∷ s) = refl
+
+plain-trimmed : (s : List ℕ) → All Plain s → trimmed s ≡ s
+plain-trimmed [] a = refl
+plain-trimmed (c ∷ s) a = rw (plain-space c (a .0 .0)) (plain-end (c ∷ s) a)
+
+plain-prompt : (s : List ℕ) → All Plain s → has 62 s ≡ false
+unfolding has
+plain-prompt [] a = refl
+plain-prompt (c ∷ s) a = rw (ne-eqb c 62 (a .0 .1), plain-prompt s (a .1))
+
+plain-stays : (s : List ℕ) → All Plain s → 0 < length s → stays s ≡ true
+plain-stays [] a h = absurd (omega arith)
+plain-stays (c ∷ s) a h = ap not (plain-prompt (c ∷ s) a)
+
+-- plain characters up to a CR are a line
+pub plain-line : (s rest : List ℕ) → All Plain s → 0 < length s → textLines (s ++ (13 ∷ rest)) ≡ s ∷ textLines rest
+unfolding textLines
+plain-line s rest a h = rw (plain-split s rest a, plain-trimmed s a, plain-stays s a h)
+
+-- nothing up to a CR is none
+pub empty-line : (rest : List ℕ) → textLines (13 ∷ rest) ≡ textLines rest
+unfolding textLines
+empty-line rest = refl
+
+-- the prompt is none
+pub prompt-line : textLines (62 ∷ []) ≡ []
+unfolding textLines isSpace has
+prompt-line = refl
+
+-- ---- digits
+
+pub plain-unspaced : (s : List ℕ) → All Plain s → unspaced s ≡ s
+plain-unspaced [] a = refl
+plain-unspaced (c ∷ s) a = let h = a .0 .0 in rw (ne-eqb c 32 (omega arith), plain-unspaced s (a .1))
+
+-- they are plain
+digit-plain : (d : ℕ) → d < 16 → Plain (hexDigit d)
+unfolding hexDigit
+digit-plain d h = (omega (arith, digit-low d h), λ e. prompt (hexDigit d) e (at-below 16 (λ d. not (eqb (hexDigit d) 62)) tt d h))
+  where
+    prompt : (c : ℕ) → c ≡ 62 → T (not (eqb c 62)) → ⊥
+    prompt c e t = rw e at t
+
+pub framed-plain : (n k : ℕ) (d : List ℕ) → All Plain (hexId n ++ (hexByte k ++ hexBytes d))
+framed-plain n k d =
+    all-append Plain (hexId n) (hexByte k ++ hexBytes d) (digits-all Plain digit-plain 3 n)
+    (all-append Plain (hexByte k) (hexBytes d) (digits-all Plain digit-plain 2 k) (bytes-all Plain digit-plain d))
+
+-- an id, a length byte, whatever it says, and data
+pub framed-back : (n k : ℕ) (d : List ℕ) → n < 4096 → All (λ b. b < 256) d → textLine true (hexId n ++ (hexByte k ++ hexBytes d)) ≡ line (suc n) d
+framed-back n k d h a =
+    line-framed (hexId n ++ (hexByte k ++ hexBytes d)) (hexId n ++ hexByte k) (hexBytes d) (plain-unspaced _ (framed-plain n k d)) refl
+    ∙ rw (id-back n h, bytes-back d a)

@@ -1,0 +1,159 @@
+-- Laws of a line decoded: the turns of the loops that read it, and how large it can be.
+use mathlib.Core.Path.{_≡_, refl, sym, ap, _∙_}
+use mathlib.Core.Bool.{Bool, true, false}
+use mathlib.Core.List.{List, [], _∷_, _++_, append-nil, append-assoc}
+use mathlib.Core.Option.{Option, none, some}
+use Prim.Native.Nat.{ℕ, suc, _+_, _≤_, _<_}
+use native.Mathlib.Numerals.{add-one}
+use native.Mathlib.Omega.{arith}
+use lib.Dec.{eqb, ltb}
+use lib.ListN.{length, take, drop, getD, set, length-append, length-take, length-drop}
+use lib.Seq.{take-suc-set, take-all, length-take-le}
+use borrow.Author.Tests.{lt-ltb, le-ltb, ltb-false}
+use Rattle.wire.specs.Put.{Put}
+use Rattle.wire.proofs.PutLaws.{put-rest, put-nil, put-whole, put-front}
+use Rattle.wire.proofs.Cases.{by-test}
+use Rattle.hex.specs.Read.{hexNumber, kept, pairBytes}
+use Rattle.hex.proofs.All.{All, all-append}
+use Rattle.hex.proofs.ReadLaws.{Below, number-small}
+use Rattle.line_list.specs.Lines.{Line, line}
+use Rattle.reply_lines.specs.Lines.{unspaced}
+use Rattle.reply_lines.specs.Decode.{orZero, textLine}
+use Rattle.reply_lines.specs.Answers.{DecodedAs}
+use Rattle.reply_lines.specs.Steps.{CharAt, HeadOf}
+use Rattle.reply_lines.specs.declared.Decoded.{Decoded}
+use Rattle.reply_lines.specs.declared.Head.{Head}
+use Rattle.reply_lines.proofs.ScanLaws.{unspaced-end, char-at, char-none}
+
+-- ---- pairs from position i on: two characters, none, one, and the end
+
+module _ {out left : List ℕ} {at r : ℕ} (text : List ℕ) (i : ℕ) (p : Put out at (pairBytes (unspaced (drop i text))) r left) where
+  pub pairs-end : length text ≤ i → (r ≡ at) × (left ≡ out)
+  pairs-end h = put-nil (rw (unspaced-end text i h) at p)
+
+  module _ (a : ℕ) (pa : CharAt text i a) where
+    pub pairs-none : length text ≤ a → (r ≡ at) × (left ≡ out)
+    pairs-none h = put-nil (rw (char-none text i a pa h) at p)
+
+    module _ (ha : a < length text) (b : ℕ) (pb : CharAt text (a + 1) b) where
+      pub pairs-odd : length text ≤ b → (r ≡ at) × (left ≡ out)
+      pairs-odd h = put-nil (rw (char-at text i a pa ha, char-none text (a + 1) b pb h) at p)
+
+      pub pairs-step : {o₁ : List ℕ} {e : ℕ} → b < length text → Put out at (kept (hexNumber (getD text a 0 ∷ getD text b 0 ∷ []))) e o₁ → Put o₁ e (pairBytes (unspaced (drop (b + 1) text))) r left
+      pairs-step h q = put-rest (rw (char-at text i a pa ha, char-at text (a + 1) b pb h) at p) q
+
+-- ---- the first characters: one more
+pub head-step : (text chars : List ℕ) (len next i : ℕ) → len < length chars → unspaced text ≡ take len chars ++ unspaced (drop next text) → CharAt text next i → i < length text →
+    unspaced text ≡ take (len + 1) (set chars len (getD text i 0)) ++ unspaced (drop (i + 1) text)
+head-step text chars len next i h q p k =
+    q
+    ∙ ap (λ (l : List ℕ). take len chars ++ l) (char-at text next i p k)
+    ∙ sym (append-assoc (take len chars) (getD text i 0 ∷ []) (unspaced (drop (i + 1) text)))
+    ∙ rw (add-one len, take-suc-set chars len (getD text i 0) h)
+
+-- ---- the line of a text: unframed, too short to be framed, and framed
+
+pub line-unframed : (text : List ℕ) → textLine false text ≡ line 0 (pairBytes (unspaced text))
+unfolding textLine
+line-unframed text = refl
+
+pub line-short : (text : List ℕ) → length (unspaced text) < 5 → textLine true text ≡ line 0 (unspaced text)
+unfolding textLine
+line-short text h = rw (lt-ltb (length (unspaced text)) 5 h)
+
+pub line-framed : (text chars rest : List ℕ) → unspaced text ≡ chars ++ rest → length chars ≡ 5 →
+    textLine true text ≡ line (suc (orZero (hexNumber (getD chars 0 0 ∷ getD chars 1 0 ∷ getD chars 2 0 ∷ [])))) (pairBytes rest)
+unfolding textLine
+line-framed text [] rest q h = absurd (omega arith)
+line-framed text (a ∷ []) rest q h = absurd (omega arith)
+line-framed text (a ∷ b ∷ []) rest q h = absurd (omega arith)
+line-framed text (a ∷ b ∷ c ∷ []) rest q h = absurd (omega arith)
+line-framed text (a ∷ b ∷ c ∷ d ∷ []) rest q h = absurd (omega arith)
+line-framed text (a ∷ b ∷ c ∷ d ∷ e ∷ []) rest q h = rw (q, le-ltb (length (a ∷ b ∷ c ∷ d ∷ e ∷ rest)) 5 (omega arith))
+line-framed text (a ∷ b ∷ c ∷ d ∷ e ∷ f ∷ s) rest q h = absurd (omega arith)
+
+-- by its first characters
+module _ (text : List ℕ) (h : Head) (p : HeadOf text h) where
+  pub head-short : h .len < 5 → textLine true text ≡ line 0 (take (h .len) (h .chars))
+  head-short k =
+      let q : unspaced text ≡ take (h .len) (h .chars) = p .whole ∙ ap (λ (l : List ℕ). take (h .len) (h .chars) ++ l) (p .short k) ∙ append-nil (take (h .len) (h .chars)) in
+      line-short text (omega (arith, ap length q, length-take (h .len) (h .chars))) ∙ rw q
+
+  pub head-framed : 5 ≤ h .len →
+      textLine true text ≡ line (suc (orZero (hexNumber (getD (h .chars) 0 0 ∷ getD (h .chars) 1 0 ∷ getD (h .chars) 2 0 ∷ [])))) (pairBytes (unspaced (drop (h .next) text)))
+  head-framed k =
+      let t : take (h .len) (h .chars) ≡ h .chars = take-all (h .len) (h .chars) (omega (arith, p .five)) in
+      line-framed text (h .chars) (unspaced (drop (h .next) text)) (p .whole ∙ rw t) (p .five)
+
+-- ---- how large a line is
+
+-- what holds of the three forms of a line holds of the line
+by-form : (P : Line → Type 0) (framing : Bool) (text : List ℕ) → P (line 0 (pairBytes (unspaced text))) → P (line 0 (unspaced text)) →
+    (5 ≤ length (unspaced text) → P (line (suc (orZero (hexNumber (take 3 (unspaced text))))) (pairBytes (drop 5 (unspaced text))))) → P (textLine framing text)
+unfolding textLine
+by-form P false text pairs chars framed = pairs
+by-form P true text pairs chars framed =
+    by-test (ltb (length (unspaced text)) 5)
+    (λ e. rw e chars)
+    (λ e. rw e (framed (ltb-false (length (unspaced text)) 5 e)))
+
+unspaced-length : (s : List ℕ) → length (unspaced s) ≤ length s
+unspaced-length [] = omega arith
+unspaced-length (c ∷ s) = by-test (eqb c 32) (λ e. rw e (omega (arith, unspaced-length s))) (λ e. rw e (omega (arith, unspaced-length s)))
+
+kept-length : (o : Option ℕ) → length (kept o) ≤ 1
+kept-length none = omega arith
+kept-length (some n) = omega arith
+
+pairs-length : (s : List ℕ) → length (pairBytes s) ≤ length s
+pairs-length [] = omega arith
+pairs-length (a ∷ []) = omega arith
+pairs-length (a ∷ b ∷ s) =
+    omega (arith, length-append (kept (hexNumber (a ∷ b ∷ []))) (pairBytes s), kept-length (hexNumber (a ∷ b ∷ [])), pairs-length s)
+
+-- its data are no longer than its text
+pub data-fits : (framing : Bool) (text : List ℕ) → length (textLine framing text .bytes) ≤ length text
+data-fits framing text =
+    let s = unspaced text in
+    by-form (λ l. length (l .bytes) ≤ length text) framing text
+    (omega (arith, pairs-length s, unspaced-length text))
+    (unspaced-length text)
+    (λ h. omega (arith, pairs-length (drop 5 s), length-drop 5 s, unspaced-length text))
+
+-- ECU+1 is at most 4096
+pub line-ecu : (framing : Bool) (text : List ℕ) → textLine framing text .ecu ≤ 4096
+line-ecu framing text =
+    let s = unspaced text in
+    by-form (λ l. l .ecu ≤ 4096) framing text (omega arith) (omega arith)
+    (λ h. id-small (hexNumber (take 3 s)) (rw (length-take-le 3 s (omega arith)) at (number-small (take 3 s))))
+  where
+    id-small : (o : Option ℕ) → Below 4096 o → suc (orZero o) ≤ 4096
+    id-small none b = omega arith
+    id-small (some n) b = omega arith
+
+-- its data are bytes when its characters are
+unspaced-bytes : (s : List ℕ) → All (λ c. c < 256) s → All (λ c. c < 256) (unspaced s)
+unspaced-bytes [] a = tt
+unspaced-bytes (c ∷ s) a = by-test (eqb c 32) (λ e. rw e (unspaced-bytes s (a .1))) (λ e. rw e (a .0, unspaced-bytes s (a .1)))
+
+kept-bytes : (o : Option ℕ) → Below 256 o → All (λ c. c < 256) (kept o)
+kept-bytes none b = tt
+kept-bytes (some n) b = (b, tt)
+
+pairs-bytes : (s : List ℕ) → All (λ c. c < 256) (pairBytes s)
+pairs-bytes [] = tt
+pairs-bytes (a ∷ []) = tt
+pairs-bytes (a ∷ b ∷ s) =
+    all-append (λ c. c < 256) (kept (hexNumber (a ∷ b ∷ []))) (pairBytes s) (kept-bytes (hexNumber (a ∷ b ∷ [])) (number-small (a ∷ b ∷ []))) (pairs-bytes s)
+
+pub data-bytes : (framing : Bool) (text : List ℕ) → All (λ c. c < 256) text → All (λ c. c < 256) (textLine framing text .bytes)
+data-bytes framing text a =
+    by-form (λ l. All (λ c. c < 256) (l .bytes)) framing text
+    (pairs-bytes (unspaced text))
+    (unspaced-bytes text a)
+    (λ h. pairs-bytes (drop 5 (unspaced text)))
+
+-- a buffer that has room for a line's data has them at its front
+pub decoded-bytes : {l : Line} {buffer left : List ℕ} {r : Decoded} → DecodedAs l buffer r left → length (l .bytes) ≤ length buffer → (r .len ≡ length (l .bytes)) × (take (r .len) left ≡ l .bytes)
+decoded-bytes {l} {buffer} {left} {r} d h =
+    (omega (arith, put-whole (d .bytes) (omega arith)), put-front (d .bytes) ∙ take-all (length buffer) (l .bytes) h)

@@ -1,0 +1,6 @@
+pub mod ScanLaws
+pub mod TurnLaws
+pub mod LineLaws
+pub mod DecodeLaws
+pub mod BackLaws
+pub mod Cards

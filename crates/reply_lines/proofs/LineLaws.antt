@@ -1,0 +1,97 @@
+-- What a step over the lines of a reply says: a walk by `next_line` keeps the lines that are left.
+use mathlib.Core.Path.{_≡_, refl, sym, ap, _∙_}
+use mathlib.Core.Bool.{Bool}
+use mathlib.Core.List.{List, [], _∷_, map}
+use mathlib.Core.Option.{Option, none, some}
+use Prim.Native.Nat.{ℕ, zero, suc, _+_, _-_, _≤_, _<_, min}
+use native.Mathlib.Omega.{arith}
+use lib.Dec.{ltb}
+use lib.ListN.{length, take, drop, getD}
+use borrow.Author.Tests.{ltb-true, ltb-false}
+use Rattle.wire.proofs.Cases.{by-test}
+use Rattle.reply_lines.specs.Lines.{trimStart, trimmed, stays, textLines}
+use Rattle.reply_lines.specs.Decode.{textLine, replyLines}
+use Rattle.reply_lines.specs.Answers.{lineStep, lineFrom}
+use Rattle.reply_lines.specs.Steps.{toCR}
+use Rattle.reply_lines.specs.declared.LineStep.{LineStep}
+use Rattle.reply_lines.specs.declared.LineStep.the-variants as step
+use Rattle.reply_lines.proofs.TurnLaws.{part, cr-inside, next-after, text-fits, end-fits, text-part, text-line, text-skip, text-end, from-line, from-skip, from-end}
+
+-- the next line that stays, from position at on
+pub record LineHere (reply : List ℕ) (at start end next : ℕ) : Type 0 where
+  pub starts : at ≤ start
+  pub ordered : start ≤ end
+  pub inside : end ≤ next
+  pub after : at < next
+  pub within : next ≤ length reply
+  pub reads : textLines (drop at reply) ≡ take (end - start) (drop start reply) ∷ textLines (drop next reply)
+
+abbrev Found : List ℕ → ℕ → Option (List ℕ) → Type 0
+Found reply at none = textLines (drop at reply) ≡ []
+Found reply at (some p) = LineHere reply at (getD p 0 0) (getD p 1 0) (getD p 2 0)
+
+-- what is found past a line that goes is found before it
+found-past : (reply : List ℕ) (at next : ℕ) → at < next → textLines (drop at reply) ≡ textLines (drop next reply) → (o : Option (List ℕ)) → Found reply next o → Found reply at o
+found-past reply at next h e none f = e ∙ f
+found-past reply at next h e (some p) f = record {
+  starts = omega (arith, f .starts);
+  ordered = f .ordered;
+  inside = f .inside;
+  after = omega (arith, f .after);
+  within = f .within;
+  reads = e ∙ f .reads;
+}
+
+found-turn : (reply : List ℕ) (at : ℕ) → at < length reply → ((next : ℕ) → at < next → Found reply next (lineFrom reply next)) → Found reply at (lineFrom reply at)
+found-turn reply at h rest =
+    let cr = at + toCR (drop at reply) in
+    let next = min (cr + 1) (length reply) in
+    let text = trimStart (part reply at cr) in
+    let t = trimmed (part reply at cr) in
+    let k = next-after reply at cr h refl next refl in
+    by-test (stays t)
+    (λ e.
+    rw (from-line reply at cr h refl next refl text refl t refl e)
+    (record {
+      starts = omega (arith, text-fits reply at cr h refl text refl);
+      ordered = omega arith;
+      inside = omega (arith, end-fits reply at cr h refl next refl text refl t refl, cr-inside reply at cr h refl);
+      after = k;
+      within = omega arith;
+      reads =
+          text-line reply at cr h refl next refl text refl t refl e
+          ∙ ap (λ (l : List ℕ). l ∷ textLines (drop next reply)) (sym (text-part reply at cr h refl next refl text refl t refl));
+    }))
+    (λ e.
+    rw (from-skip reply at cr h refl next refl text refl t refl e)
+    (found-past reply at next k (text-skip reply at cr h refl next refl text refl t refl e) (lineFrom reply next) (rest next k)))
+
+found : (n : ℕ) (reply : List ℕ) (at : ℕ) → length reply - at ≤ n → Found reply at (lineFrom reply at)
+found zero reply at h = rw (from-end reply at (omega arith)) (text-end reply at (omega arith))
+found (suc n) reply at h =
+    by-test (ltb at (length reply))
+    (λ e. found-turn reply at (ltb-true at (length reply) e) (λ next k. found n reply next (omega (arith, ltb-true at (length reply) e))))
+    (λ e. let k = ltb-false at (length reply) e in rw (from-end reply at k) (text-end reply at k))
+
+-- an answer with a line: its bounds, and the line with those that are left
+pub step-line : (reply : List ℕ) (at : ℕ) {r : LineStep} {start end next : ℕ} → lineStep r ≡ lineFrom reply at → r ≡ step.Line start end next → LineHere reply at start end next
+step-line reply at {r} {start} {end} {next} q e =
+    let p : lineFrom reply at ≡ some (start ∷ end ∷ next ∷ []) = sym q ∙ ap lineStep e in
+    rw p at (found (length reply - at) reply at (omega arith))
+
+-- an answer with none: no line is left
+pub step-end : (reply : List ℕ) (at : ℕ) {r : LineStep} → lineStep r ≡ lineFrom reply at → r ≡ step.End → textLines (drop at reply) ≡ []
+step-end reply at {r} q e =
+    let p : lineFrom reply at ≡ none = sym q ∙ ap lineStep e in
+    rw p at (found (length reply - at) reply at (omega arith))
+
+-- ---- the same of the lines decoded
+
+pub reply-line : (framing : Bool) (reply : List ℕ) (at start end next : ℕ) → LineHere reply at start end next →
+    replyLines framing (drop at reply) ≡ textLine framing (take (end - start) (drop start reply)) ∷ replyLines framing (drop next reply)
+unfolding replyLines
+reply-line framing reply at start end next h = ap (map (textLine framing)) (h .reads)
+
+pub reply-end : (framing : Bool) (reply : List ℕ) (at : ℕ) → textLines (drop at reply) ≡ [] → replyLines framing (drop at reply) ≡ []
+unfolding replyLines
+reply-end framing reply at h = ap (map (textLine framing)) h

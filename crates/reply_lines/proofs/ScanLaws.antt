@@ -1,0 +1,92 @@
+-- Laws of the scans over a line: one for each way through the loop that goes over it.
+use mathlib.Core.Path.{_≡_, refl, sym, ap, _∙_}
+use mathlib.Core.Bool.{true, false, not}
+use mathlib.Core.List.{List, [], _∷_, _++_}
+use Prim.Native.Nat.{ℕ, suc, _+_, _-_, _≤_, _<_}
+use native.Mathlib.Numerals.{add-one}
+use native.Mathlib.Omega.{arith}
+use lib.ListN.{length, take, drop, getD, length-drop, drop-of-length-le}
+use lib.Seq.{drop-cons, take-suc, take-all}
+use borrow.Author.Tests.{eq-eqb, ne-eqb}
+use Rattle.wire.specs.Text.{has, isSpace}
+use Rattle.reply_lines.specs.Lines.{trimStart, before, trimEnd, stays, unspaced}
+use Rattle.reply_lines.specs.Steps.{toCR, CharAt}
+
+-- a part to the end of a slice
+pub part-all : (s : List ℕ) (i : ℕ) → take (length s - i) (drop i s) ≡ drop i s
+part-all s i = take-all (length s - i) (drop i s) (omega (arith, length-drop i s))
+
+-- ---- a trimmed line
+
+pub stays-none : (s : List ℕ) → length s ≡ 0 → stays s ≡ false
+stays-none [] h = refl
+stays-none (c ∷ s) h = absurd (omega arith)
+
+pub stays-some : (s : List ℕ) → (length s ≡ 0 → ⊥) → stays s ≡ not (has 62 s)
+stays-some [] h = absurd (h refl)
+stays-some (c ∷ s) h = refl
+
+-- ---- from position i on
+
+module _ (s : List ℕ) (i : ℕ) (h : i < length s) where
+  pub cr-here : getD s i 0 ≡ 13 → toCR (drop i s) ≡ 0
+  unfolding toCR
+  cr-here e = rw (drop-cons s i 0 h, eq-eqb (getD s i 0) 13 e)
+
+  pub cr-next : (getD s i 0 ≡ 13 → ⊥) → toCR (drop i s) ≡ suc (toCR (drop (i + 1) s))
+  unfolding toCR
+  cr-next n = rw (add-one, drop-cons s i 0 h, ne-eqb (getD s i 0) 13 n)
+
+  pub start-next : isSpace (getD s i 0) ≡ true → trimStart (drop i s) ≡ trimStart (drop (i + 1) s)
+  start-next e = rw (add-one, drop-cons s i 0 h, e)
+
+  pub start-stop : isSpace (getD s i 0) ≡ false → trimStart (drop i s) ≡ drop i s
+  start-stop e = rw (drop-cons s i 0 h, e)
+
+  pub space-here : getD s i 0 ≡ 32 → unspaced (drop i s) ≡ unspaced (drop (i + 1) s)
+  space-here e = rw (add-one, drop-cons s i 0 h, eq-eqb (getD s i 0) 32 e)
+
+  char-here : (getD s i 0 ≡ 32 → ⊥) → unspaced (drop i s) ≡ getD s i 0 ∷ unspaced (drop (i + 1) s)
+  char-here n = rw (add-one, drop-cons s i 0 h, ne-eqb (getD s i 0) 32 n)
+
+pub cr-end : (s : List ℕ) (i : ℕ) → length s ≤ i → toCR (drop i s) ≡ 0
+unfolding toCR
+cr-end s i h = rw (drop-of-length-le s h)
+
+pub start-end : (s : List ℕ) (i : ℕ) → length s ≤ i → trimStart (drop i s) ≡ []
+start-end s i h = rw (drop-of-length-le s h)
+
+pub unspaced-end : (s : List ℕ) (i : ℕ) → length s ≤ i → unspaced (drop i s) ≡ []
+unspaced-end s i h = rw (drop-of-length-le s h)
+
+-- ---- the next character
+
+pub char-at : (s : List ℕ) (at r : ℕ) → CharAt s at r → r < length s → unspaced (drop at s) ≡ getD s r 0 ∷ unspaced (drop (r + 1) s)
+char-at s at r p h = sym (p .reads) ∙ char-here s r h (p .char h)
+
+pub char-none : (s : List ℕ) (at r : ℕ) → CharAt s at r → length s ≤ r → unspaced (drop at s) ≡ []
+char-none s at r p h = sym (p .reads) ∙ unspaced-end s r h
+
+-- ---- down from position e
+
+space-last : (s : List ℕ) (c : ℕ) → isSpace c ≡ true → trimEnd (s ++ (c ∷ [])) ≡ trimEnd s
+space-last [] c e = rw e
+space-last (d ∷ s) c e = ap (before d) (space-last s c e)
+
+char-last : (s : List ℕ) (c : ℕ) → isSpace c ≡ false → trimEnd (s ++ (c ∷ [])) ≡ s ++ (c ∷ [])
+char-last [] c e = rw e
+char-last (d ∷ s) c e = ap (before d) (char-last s c e) ∙ some s
+  where
+    some : (s : List ℕ) → before d (s ++ (c ∷ [])) ≡ d ∷ (s ++ (c ∷ []))
+    some [] = refl
+    some (x ∷ s) = refl
+
+module _ (s : List ℕ) (e : ℕ) (some : 0 < e) (h : e ≤ length s) where
+  last-of : take e s ≡ take (e - 1) s ++ (getD s (e - 1) 0 ∷ [])
+  last-of = let m : suc (e - 1) ≡ e = omega arith in rw m at (take-suc s (e - 1) 0 (omega arith))
+
+  pub end-next : isSpace (getD s (e - 1) 0) ≡ true → trimEnd (take e s) ≡ trimEnd (take (e - 1) s)
+  end-next t = ap trimEnd last-of ∙ space-last (take (e - 1) s) (getD s (e - 1) 0) t
+
+  pub end-stop : isSpace (getD s (e - 1) 0) ≡ false → trimEnd (take e s) ≡ take e s
+  end-stop t = ap trimEnd last-of ∙ char-last (take (e - 1) s) (getD s (e - 1) 0) t ∙ sym last-of
