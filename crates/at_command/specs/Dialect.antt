@@ -1,6 +1,6 @@
 -- Document 01, server_session.rs: "An AT command updates the client settings it is lent, then is answered with the line ending now in force: text, ending,
 -- ending, `>`; ATZ puts two endings first. Texts are those of `handle_at_command`. The text of ATI or AT@1 is one of the two lent identity strings".
-use mathlib.Core.Bool.{Bool, true, false, cond, _||_}
+use mathlib.Core.Bool.{Bool, true, false, cond}
 use mathlib.Core.List.{List, [], _∷_}
 use Prim.Native.Nat.{ℕ}
 use Prim.Native.String.{String}
@@ -9,10 +9,10 @@ use Rattle.client_state.specs.Settings.{Settings, fresh}
 use Rattle.at_command.specs.declared.AtKind.{AtKind}
 use Rattle.at_command.specs.declared.AtKind.the-variants.{Reset, Echo, Linefeeds, Spaces, Headers, Voltage, Protocol, ProtocolNumber, Accepted, Ati, Device, Unknown}
 
-abbrev isText : List ℕ → String → Bool
+abbrev pub isText : List ℕ → String → Bool
 isText c t = same c (ascii t)
 
-abbrev startsWith : List ℕ → String → Bool
+abbrev pub startsWith : List ℕ → String → Bool
 startsWith c t = begins c (ascii t)
 
 -- the dialect: ATSP, ATST and ATAT match by their start, the others whole
@@ -30,9 +30,11 @@ atKind c =
     (cond (isText c "ATRV") Voltage
     (cond (isText c "ATDP") Protocol
     (cond (isText c "ATDPN") ProtocolNumber
-    (cond (startsWith c "ATSP" || (startsWith c "ATST" || startsWith c "ATAT")) Accepted
+    (cond (startsWith c "ATSP") Accepted
+    (cond (startsWith c "ATST") Accepted
+    (cond (startsWith c "ATAT") Accepted
     (cond (isText c "ATI") Ati
-    (cond (isText c "AT@1") Device Unknown))))))))))))))
+    (cond (isText c "AT@1") Device Unknown))))))))))))))))
 
 -- the settings after it: ATZ makes all fresh, the last command with them
 abbrev pub kindSettings : AtKind → Settings → Settings
@@ -67,7 +69,17 @@ kindLines ati device Ati = ati ∷ []
 kindLines ati device Device = device ∷ []
 kindLines ati device Unknown = says "?"
 
--- "one of the two lent identity strings, handed back without copying": the string itself, whatever it is
-abbrev pub identityOf : {A : Type 0} → Bool → A → A → A
-identityOf true ati device = device
-identityOf false ati device = ati
+-- "one of the two lent identity strings, handed back without copying": the device description for AT@1, else the ATI string
+abbrev pub identityOf : {A : Type 0} → AtKind → A → A → A
+identityOf Reset ati device = ati
+identityOf (Echo on) ati device = ati
+identityOf (Linefeeds on) ati device = ati
+identityOf (Spaces on) ati device = ati
+identityOf (Headers on) ati device = ati
+identityOf Voltage ati device = ati
+identityOf Protocol ati device = ati
+identityOf ProtocolNumber ati device = ati
+identityOf Accepted ati device = ati
+identityOf Ati ati device = ati
+identityOf Device ati device = device
+identityOf Unknown ati device = ati

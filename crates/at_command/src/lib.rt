@@ -1,7 +1,10 @@
 // The AT dialect (handle_at_command of the Rust's server_session.rs).
 ghost use mathlib.Core.Path.{_≡_};
+ghost use lib.ListN.{drop};
+ghost use mathlib.Core.Bool.{true, false, cond};
+ghost use Rattle.wire.specs.Text.{same, begins};
 ghost use Rattle.client_state.specs.Settings.{settings};
-ghost use Rattle.at_command.specs.Dialect.{atKind, kindSettings, identityOf};
+ghost use Rattle.at_command.specs.Dialect.{isText, startsWith, atKind, kindSettings, identityOf};
 use client_state::ClientState;
 
 // What an AT command is to the server.
@@ -31,4 +34,144 @@ pub enum AtKind {
 pub struct AtHandled {
     pub state: ClientState,
     pub kind: AtKind,
+}
+
+// One text, matched whole.
+fn one_text(command: &[u8], text: &[u8], kind: AtKind) -> AtKind
+    ensures { λ r. ⌜ r ≡ cond (same (now (command .entry)) (now (text .entry))) kind AtKind.Unknown ⌝ }
+{
+    if wire::same(command, text) {
+        return kind;
+    }
+    AtKind::Unknown
+}
+
+// A text that the command starts with.
+fn accepted(command: &[u8], text: &[u8]) -> AtKind
+    ensures { λ r. ⌜ r ≡ cond (begins (now (command .entry)) (now (text .entry))) AtKind.Accepted AtKind.Unknown ⌝ }
+{
+    if wire::begins(command, text) {
+        return AtKind::Accepted;
+    }
+    AtKind::Unknown
+}
+
+// A switch: 0 after the letter turns it off, 1 on.
+fn switched(command: &[u8], off: AtKind, on: AtKind) -> AtKind
+    ensures { λ r. ⌜ r ≡ cond (isText (drop 3 (now (command .entry))) "0") off (cond (isText (drop 3 (now (command .entry))) "1") on AtKind.Unknown) ⌝ }
+{
+    if command.len() != 4 {
+        return AtKind::Unknown;
+    }
+    let digit = command[3];
+    if digit == b'0' {
+        return off;
+    }
+    if digit == b'1' {
+        return on;
+    }
+    AtKind::Unknown
+}
+
+// ATS0 and ATS1, or what starts with ATSP or ATST.
+fn ats_kind(command: &[u8]) -> AtKind
+    ensures { λ r. ⌜ r ≡ cond (isText (now (command .entry)) "ATS0") (AtKind.Spaces false)
+        (cond (isText (now (command .entry)) "ATS1") (AtKind.Spaces true)
+        (cond (startsWith (now (command .entry)) "ATSP") AtKind.Accepted
+        (cond (startsWith (now (command .entry)) "ATST") AtKind.Accepted AtKind.Unknown))) ⌝ }
+{
+    if wire::same(command, b"ATS0") {
+        return AtKind::Spaces(false);
+    }
+    if wire::same(command, b"ATS1") {
+        return AtKind::Spaces(true);
+    }
+    if wire::begins(command, b"ATSP") {
+        return AtKind::Accepted;
+    }
+    accepted(command, b"ATST")
+}
+
+// ATDP and ATDPN.
+fn atd_kind(command: &[u8]) -> AtKind
+    ensures { λ r. ⌜ r ≡ cond (isText (now (command .entry)) "ATDP") AtKind.Protocol
+        (cond (isText (now (command .entry)) "ATDPN") AtKind.ProtocolNumber AtKind.Unknown) ⌝ }
+{
+    if wire::same(command, b"ATDP") {
+        return AtKind::Protocol;
+    }
+    one_text(command, b"ATDPN", AtKind::ProtocolNumber)
+}
+
+// What an AT command is. The letter after AT leaves few texts to compare.
+pub fn at_kind(command: &[u8]) -> AtKind
+    ensures { λ r. ⌜ r ≡ atKind (now (command .entry)) ⌝ }
+{
+    if !wire::begins(command, b"AT") {
+        return AtKind::Unknown;
+    }
+    if command.len() < 3 {
+        return AtKind::Unknown;
+    }
+    let letter = command[2];
+    match letter {
+        b'Z' => one_text(command, b"ATZ", AtKind::Reset),
+        b'E' => switched(command, AtKind::Echo(false), AtKind::Echo(true)),
+        b'L' => switched(command, AtKind::Linefeeds(false), AtKind::Linefeeds(true)),
+        b'S' => ats_kind(command),
+        b'H' => switched(command, AtKind::Headers(false), AtKind::Headers(true)),
+        b'R' => one_text(command, b"ATRV", AtKind::Voltage),
+        b'D' => atd_kind(command),
+        b'A' => accepted(command, b"ATAT"),
+        b'I' => one_text(command, b"ATI", AtKind::Ati),
+        b'@' => one_text(command, b"AT@1", AtKind::Device),
+        _ => AtKind::Unknown,
+    }
+}
+
+// The settings after a command of a kind.
+fn with_kind(state: ClientState, kind: AtKind) -> ClientState
+    ensures { λ r. ⌜ settings r ≡ kindSettings kind (settings state) ⌝ }
+{
+    let mut next = state;
+    match kind {
+        AtKind::Reset => {
+            return ClientState::default();
+        }
+        AtKind::Echo(on) => {
+            next.echo_enabled = on;
+        }
+        AtKind::Linefeeds(on) => {
+            next.linefeeds_enabled = on;
+        }
+        AtKind::Spaces(on) => {
+            next.spaces_enabled = on;
+        }
+        AtKind::Headers(on) => {
+            next.headers_enabled = on;
+        }
+        _ => {}
+    }
+    next
+}
+
+// An AT command: the settings after it, and what it is, by which it is answered.
+pub fn handle_at_command(state: ClientState, command: &[u8]) -> AtHandled
+    ensures { λ r. ⌜ (settings (r .state) ≡ kindSettings (atKind (now (command .entry))) (settings state))
+        × (r .kind ≡ atKind (now (command .entry))) ⌝ }
+{
+    let kind = at_kind(command);
+    let next = with_kind(state, kind);
+    AtHandled { state: next, kind }
+}
+
+// The identity string that answers a command, one of the two lent: the device description for AT@1, else the ATI one.
+pub fn identity_text<'a>(ati: &'a [u8], device: &'a [u8], kind: AtKind) -> &'a [u8]
+    ensures { λ r. ⌜ r ≡ identityOf kind (ati .entry) (device .entry) ⌝ }
+{
+    if let AtKind::Device = kind {
+        device
+    } else {
+        ati
+    }
 }

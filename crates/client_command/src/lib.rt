@@ -1,7 +1,6 @@
 // The commands that a client sends besides queries: raw ones, and those of the initialisation (`command` and `init` of the Rust's client_session.rs).
 ghost use mathlib.Core.Path.{_≡_};
 ghost use Rattle.wire.specs.Put.{Put};
-ghost use Rattle.wire.specs.Text.{raised};
 ghost use Rattle.client_command.specs.Commands.{withCR, isCommand, framingEffect, setupText};
 
 // What a completed raw command does to framing.
@@ -13,19 +12,6 @@ pub enum FramingEffect {
     Off,
 }
 
-// A letter a to z raised.
-fn raise(b: u8) -> u8
-    ensures { λ r. ⌜ r ≡ raised b ⌝ }
-{
-    if b < 97 {
-        return b;
-    }
-    if b <= 122 {
-        return b - 32;
-    }
-    b
-}
-
 // Whether a command is a text of capitals, in any case of its letters.
 fn is_command(command: &[u8], text: &[u8]) -> bool
     ensures { λ r. ⌜ r ≡ isCommand (now (command .entry)) (now (text .entry)) ⌝ }
@@ -35,7 +21,7 @@ fn is_command(command: &[u8], text: &[u8]) -> bool
     }
     let mut i = 0;
     while i < text.len() {
-        if raise(command[i]) != text[i] {
+        if wire::raise(command[i]) != text[i] {
             return false;
         }
         i += 1;

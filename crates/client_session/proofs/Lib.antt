@@ -2,3 +2,4 @@ pub mod StepLaws
 pub mod StartLaws
 pub mod PieceLaws
 pub mod StoreLaws
+pub mod FinishLaws

@@ -5,6 +5,7 @@ use mathlib.Core.List.{List, [], _∷_}
 use Prim.Native.Nat.{ℕ}
 use lib.Dec.{ltb}
 use lib.ListN.{length}
+use Rattle.wire.specs.Answer.{Answer, result, refused}
 use Rattle.wire.specs.Text.{high}
 use Rattle.line_list.specs.Lines.{Line}
 use Rattle.value.specs.Values.{Value, valuesBytes}
@@ -15,30 +16,38 @@ use Rattle.client_session.specs.declared.FeatureSupport.{FeatureSupport}
 use Rattle.client_session.specs.declared.FeatureSupport.the-variants as support
 use Rattle.client_session.specs.declared.Under.{Under}
 use Rattle.client_session.specs.declared.Under.the-variants as under
-use Rattle.client_session.specs.Session.{Query, Known, Client, Said, saying, refusing}
+use Rattle.client_session.specs.declared.FinishAnswer.{FinishAnswer}
+use Rattle.client_session.specs.declared.FinishAnswer.the-variants as answer
+use Rattle.client_session.specs.declared.FinishStep.{FinishStep}
+use Rattle.client_session.specs.Session.{Client, client, Said, saying, refusing, Served}
 use Rattle.client_session.specs.Piece.{decided, failing, replyIn}
 
--- multi-PID support after a reply: with two of the queried PIDs it is confirmed, else refused
-abbrev pub multiAfter : Bool → List ℕ → FeatureSupport → List Value → FeatureSupport
-multiAfter false pids m vs = m
-multiAfter true pids m vs = decided m (cond (ltb (givenPids pids vs) 2) support.No support.Yes)
+-- multi-PID support after a reply that gave so many of the queried PIDs: with two it is confirmed, else refused
+abbrev pub multiAfter : Bool → FeatureSupport → ℕ → FeatureSupport
+multiAfter false m given = m
+multiAfter true m given = decided m (cond (ltb given 2) support.No support.Yes)
 
--- what a reply's lines teach, and its values
-abbrev pub knownAfter : Query → Known → List ℕ → List Value → Known
-knownAfter q k lengths vs = record {
-  wanted = k .wanted;
-  framing = k .framing;
-  repeat = k .repeat;
-  multi = multiAfter (q .several) (q .pids) (k .multi) vs;
-  lengths = lengths;
-  counts = learnCounts (k .framing) 0 (k .counts) vs;
-  last = k .last;
+-- the session when a query is over, with lengths, counts and the number of queried PIDs given
+abbrev pub taught : Client → List ℕ → List ℕ → ℕ → Client
+taught c lengths counts given = record {
+  known = record {
+    wanted = c .known .wanted;
+    framing = c .known .framing;
+    repeat = c .known .repeat;
+    multi = multiAfter (c .query .several) (c .known .multi) given;
+    lengths = lengths;
+    counts = counts;
+    last = c .known .last;
+  };
+  query = c .query;
+  under = under.Nothing;
+  got = 0;
 }
 
 -- the query is over; the result is the number of values
 abbrev pub finished : Client → List ℕ → List Value → Said ℕ
 finished c lengths vs =
-    saying (length vs) (record { known = knownAfter (c .query) (c .known) lengths vs; query = c .query; under = under.Nothing; got = 0 })
+    saying (length vs) (taught c lengths (learnCounts (c .known .framing) 0 (c .known .counts) vs) (givenPids (c .query .pids) vs))
     (valuesBytes (answerOrder vs))
 
 -- unless its values are longer than the room for them
@@ -51,15 +60,30 @@ finishReply room c reply =
     let lengths = lengthsAfter (c .query .several) (c .query .pids) (c .known .lengths) ls in
     roomFor room c (finished c lengths (valuesOf lengths ls))
 
-abbrev pub finishUnder : Under → ℕ → Client → List ℕ → Said ℕ
-finishUnder under.Nothing room c store = refusing 1 c
-finishUnder under.Reset room c store = refusing 1 c
-finishUnder (under.Setup k) room c store = refusing 1 c
-finishUnder (under.Raw e) room c store = refusing 1 c
-finishUnder under.Query room c store = refusing 1 c
-finishUnder under.Repeat room c store = refusing 1 c
-finishUnder under.Complete room c store =
-    cond (ltb (length store) 4096) (refusing 6 c) (cond (high (replyIn c store)) (failing 9 c) (finishReply room c (replyIn c store)))
+-- a query's reply is complete
+abbrev pub isComplete : Under → Bool
+isComplete under.Nothing = false
+isComplete under.Reset = false
+isComplete (under.Setup k) = false
+isComplete (under.Raw e) = false
+isComplete under.Query = false
+isComplete under.Repeat = false
+isComplete under.Complete = true
 
+-- a finish: 1, 6, 9, 6
 unfoldable pub finishSays : ℕ → Client → List ℕ → Said ℕ
-finishSays room c store = finishUnder (c .under) room c store
+finishSays room c store =
+    cond (isComplete (c .under))
+    (cond (ltb (length store) 4096) (refusing 6 c)
+    (cond (high (replyIn c store)) (failing 9 c) (finishReply room c (replyIn c store))))
+    (refusing 1 c)
+
+-- the cases of FinishAnswer
+abbrev pub finishAnswer : FinishAnswer → Answer ℕ
+finishAnswer (answer.Values n) = result n
+finishAnswer answer.OutOfTurn = refused 1
+finishAnswer answer.SmallBuffer = refused 6
+finishAnswer answer.NotAscii = refused 9
+
+abbrev pub finishServed : FinishStep → List ℕ → Served ℕ
+finishServed r out = record { answer = finishAnswer (r .answer); written = r .written; next = client (r .session); out = out }

@@ -1,4 +1,6 @@
 // The client end of the wire protocol: it drives an ELM327 (client_session.rs of the Rust). Each call takes the session by value and gives the next one back.
+mod finish;
+
 use client_command::FramingEffect;
 ghost use mathlib.Core.Path.{_≡_};
 ghost use mathlib.Core.Bool.{true, false, cond};
@@ -109,6 +111,25 @@ pub enum PieceAnswer {
 pub struct PieceStep {
     pub answer: PieceAnswer,
     // How many bytes of out are to be sent.
+    pub written: usize,
+    pub session: ClientSession,
+}
+
+// What a finish says.
+pub enum FinishAnswer {
+    // So many values stand in out.
+    Values(usize),
+    // 1: no query's reply is complete.
+    OutOfTurn,
+    // 6: the store has less than 4,096 bytes, or the values are longer than out.
+    SmallBuffer,
+    // 9: the reply holds a byte of 80 or more.
+    NotAscii,
+}
+
+pub struct FinishStep {
+    pub answer: FinishAnswer,
+    // How many bytes of out the values take.
     pub written: usize,
     pub session: ClientSession,
 }

@@ -15,7 +15,7 @@ use Rattle.wire.proofs.PutLaws.{put-rest, put-nil}
 use Rattle.wire.proofs.Cases.{by-test, below, at-below}
 use Rattle.hex.specs.Digits.{hexDigit, hexByte, hexBytes}
 use Rattle.hex.proofs.All.{All, all-append}
-use Rattle.hex.proofs.DigitLaws.{bytes-all, bytes-length, digit-low, digit-high}
+use Rattle.hex.proofs.DigitLaws.{bytes-all, bytes-length, digit-between}
 use Rattle.query.specs.Query.{decimal, countText, queryText}
 
 -- ---- the PIDs one by one: a turn and the end of the loop that writes them
@@ -97,7 +97,7 @@ module _ (P : ℕ → Type 0) (space : P 32) (digit : (d : ℕ) → d < 16 → P
 
 -- so each lies between 20 and 46 hex
 pub query-within : (pids : List ℕ) (count : ℕ) → count ≤ 256 → All (λ c. (32 ≤ c) × (c ≤ 70)) (queryText pids count)
-query-within pids count h = query-all (λ c. (32 ≤ c) × (c ≤ 70)) (omega arith) (λ d k. (omega (arith, digit-low d k), digit-high d k)) pids count h
+query-within pids count h = query-all (λ c. (32 ≤ c) × (c ≤ 70)) (omega arith) (λ d k. (let b = digit-between d k in (omega (arith, b .0), b .1))) pids count h
 
 none-in : (f : ℕ → Bool) (s : List ℕ) → All (λ c. f c ≡ false) s → any f s ≡ false
 none-in f [] a = refl

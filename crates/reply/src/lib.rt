@@ -1,8 +1,18 @@
 // What the server sends as a reply: the chip's shape, and line lists written in it (reply, push_header and push_hex of the Rust's server_session.rs).
-ghost use mathlib.Core.List.{[], _∷_};
+use line_list::LineCursor;
+use line_list::LineStep;
+ghost use mathlib.Core.Path.{_≡_};
+ghost use mathlib.Core.Bool.{cond};
+ghost use mathlib.Core.List.{List, [], _∷_, map};
+ghost use Prim.Native.Nat.{ℕ, _+_, _≤_};
+ghost use lib.ListN.{length};
 ghost use Rattle.wire.specs.Put.{Put};
+ghost use Rattle.group.specs.Group.{got};
+ghost use Rattle.client_state.specs.Settings.{lineEnding};
+ghost use Rattle.line_list.specs.Lines.{Line, line, lineList};
 ghost use Rattle.reply.specs.Shape.{chipReply};
-ghost use Rattle.reply.specs.Answers.{replyAnswer, replied};
+ghost use Rattle.reply.specs.Reply.{ecuId, spaceIf, dataHex, header, lineText};
+ghost use Rattle.reply.specs.Answers.{lent, replied, sizeAnswer, replySize};
 
 pub enum ReplyAnswer {
     // So many bytes stand at the front of out.
@@ -13,19 +23,213 @@ pub enum ReplyAnswer {
     SmallBuffer,
 }
 
+enum ReplySize {
+    // The reply has so many bytes.
+    Size(usize),
+    // 5: not a line list.
+    Malformed,
+}
+
 // What follows the last line of a reply: an empty line and the prompt.
 pub fn put_prompt(out: &mut [u8], at: usize, linefeeds: bool) -> usize
     ensures { λ r. ⌜ Put (now (out .entry)) at (chipReply linefeeds []) r (now (out .exit)) ⌝ }
 {
-    let at = client_state::put_line_ending(out, at, linefeeds);
-    wire::put_byte(out, at, b'>')
+    let next = client_state::put_line_ending(out, at, linefeeds);
+    wire::put_byte(out, next, b'>')
 }
 
 // A reply of one line.
 pub fn put_text_reply(out: &mut [u8], at: usize, text: &[u8], linefeeds: bool) -> usize
     ensures { λ r. ⌜ Put (now (out .entry)) at (chipReply linefeeds (now (text .entry) ∷ [])) r (now (out .exit)) ⌝ }
 {
-    let at = wire::put(out, at, text);
-    let at = client_state::put_line_ending(out, at, linefeeds);
-    put_prompt(out, at, linefeeds)
+    let end = wire::put(out, at, text);
+    let next = client_state::put_line_ending(out, end, linefeeds);
+    put_prompt(out, next, linefeeds)
+}
+
+// The space that follows the parts of a header and separates bytes, if spaces are on.
+fn put_space(out: &mut [u8], at: usize, spaces: bool) -> usize
+    ensures { λ r. ⌜ Put (now (out .entry)) at (spaceIf spaces) r (now (out .exit)) ⌝ }
+{
+    if spaces {
+        return wire::put_byte(out, at, b' ');
+    }
+    at
+}
+
+// The id of ECU+1.
+fn ecu_id(ecu: u16) -> u16
+    ensures { λ r. ⌜ r ≡ ecuId ecu ⌝ }
+{
+    if ecu == 0 {
+        return 0x7E8;
+    }
+    ecu - 1
+}
+
+// The header of a line: its ECU, and how many bytes it has (255 at most) in two digits.
+fn put_header(out: &mut [u8], at: usize, ecu: u16, payload: &[u8], spaces: bool) -> usize
+    ensures { λ r. ⌜ Put (now (out .entry)) at (header spaces (line ecu (now (payload .entry)))) r (now (out .exit)) ⌝ }
+{
+    let at = hex::put_hex_id(out, at, ecu_id(ecu));
+    let at = put_space(out, at, spaces);
+    let at = hex::put_hex_byte(out, at, (payload.len() % 256) as u8);
+    put_space(out, at, spaces)
+}
+
+// Data in capital hex.
+fn put_data(out: &mut [u8], at: usize, payload: &[u8], spaces: bool) -> usize
+    ensures { λ r. ⌜ Put (now (out .entry)) at (dataHex spaces (now (payload .entry))) r (now (out .exit)) ⌝ }
+{
+    if payload.len() == 0 {
+        return at;
+    }
+    let mut at = hex::put_hex_byte(out, at, payload[0]);
+    let mut i: usize = 1;
+    while i < payload.len() {
+        at = put_space(out, at, spaces);
+        at = hex::put_hex_byte(out, at, payload[i]);
+        i += 1;
+    }
+    at
+}
+
+// A line, without its ending.
+fn put_line_text(
+    out: &mut [u8],
+    at: usize,
+    ecu: u16,
+    payload: &[u8],
+    spaces: bool,
+    headers: bool,
+) -> usize
+    ensures { λ r. ⌜ Put (now (out .entry)) at (lineText spaces headers (line ecu (now (payload .entry)))) r (now (out .exit)) ⌝ }
+{
+    if headers {
+        let start = put_header(out, at, ecu, payload, spaces);
+        return put_data(out, start, payload, spaces);
+    }
+    put_data(out, at, payload, spaces)
+}
+
+fn ending_size(linefeeds: bool) -> usize
+    ensures { λ r. ⌜ r ≡ length (lineEnding linefeeds) ⌝ }
+{
+    if linefeeds {
+        return 2;
+    }
+    1
+}
+
+// A header has five digits and, if spaces are on, two spaces.
+fn header_size(spaces: bool, headers: bool) -> usize
+    ensures { λ r. ⌜ ((l : Line) → r ≡ length (cond headers (header spaces l) [])) ⌝ }
+{
+    if headers {
+        if spaces {
+            return 7;
+        }
+        return 5;
+    }
+    0
+}
+
+// A byte has two digits and, if spaces are on, all but the last have a space.
+fn data_size(payload: &[u8], spaces: bool) -> usize
+    requires { ⌜ length (now payload) ≤ 255 ⌝ }
+    ensures { λ r. ⌜ r ≡ length (dataHex spaces (now (payload .entry))) ⌝ }
+{
+    let n = payload.len();
+    if n == 0 {
+        return 0;
+    }
+    if spaces {
+        return 3 * n - 1;
+    }
+    2 * n
+}
+
+// How long a line is with its ending, whatever its ECU.
+fn line_size(payload: &[u8], linefeeds: bool, spaces: bool, headers: bool) -> usize
+    requires { ⌜ length (now payload) ≤ 255 ⌝ }
+    ensures { λ r. ⌜ ((e : ℕ) → r ≡ length (lineText spaces headers (line e (now (payload .entry)))) + length (lineEnding linefeeds)) ⌝ }
+{
+    header_size(spaces, headers) + data_size(payload, spaces) + ending_size(linefeeds)
+}
+
+// How long the reply to a line list is: one walk checks the list and adds up its lines.
+fn reply_size(list: &[u8], linefeeds: bool, spaces: bool, headers: bool) -> ReplySize
+    ensures { λ r. ⌜ sizeAnswer r ≡ replySize linefeeds spaces headers (now (list .entry)) ⌝ }
+{
+    let ending = ending_size(linefeeds);
+    // An empty line and the prompt.
+    let mut size = ending + 1;
+    if list.len() == 0 {
+        // `NO DATA`.
+        return ReplySize::Size(7 + ending + size);
+    }
+    let mut cursor = LineCursor::new();
+    let mut lines: usize = 0;
+    loop {
+        match cursor.step(list) {
+            LineStep::Line {
+                ecu: _,
+                start,
+                next,
+            } => {
+                if lines == 64 {
+                    return ReplySize::Malformed;
+                }
+                let end = next.at;
+                size = size + line_size(&list[start..end], linefeeds, spaces, headers);
+                cursor = next;
+                lines += 1;
+            }
+            LineStep::End => return ReplySize::Size(size),
+            LineStep::Malformed => return ReplySize::Malformed,
+        }
+    }
+}
+
+// The lines of a well-formed list, then the prompt, from the start of out on.
+fn write_lines(list: &[u8], linefeeds: bool, spaces: bool, headers: bool, out: &mut [u8]) -> usize
+    ensures { λ r. ⌜ ((ls : List Line) (rest : List ℕ) → lineList (now (list .entry)) ≡ got ls rest → Put (now (out .entry)) 0 (chipReply linefeeds (map (lineText spaces headers) ls)) r (now (out .exit))) ⌝ }
+{
+    let mut cursor = LineCursor::new();
+    let mut at: usize = 0;
+    loop {
+        match cursor.step(list) {
+            LineStep::Line { ecu, start, next } => {
+                let end = next.at;
+                at = put_line_text(out, at, ecu, &list[start..end], spaces, headers);
+                at = client_state::put_line_ending(out, at, linefeeds);
+                cursor = next;
+            }
+            LineStep::End => return put_prompt(out, at, linefeeds),
+            // Not in a well-formed list.
+            LineStep::Malformed => return at,
+        }
+    }
+}
+
+// The reply to a line list at the front of out, which is left as it was where it is too small.
+pub fn write_reply(
+    list: &[u8],
+    linefeeds: bool,
+    spaces: bool,
+    headers: bool,
+    out: &mut [u8],
+) -> ReplyAnswer
+    ensures { λ r. ⌜ lent r (now (out .exit)) ≡ replied linefeeds spaces headers (now (list .entry)) (now (out .entry)) ⌝ }
+{
+    let ReplySize::Size(size) = reply_size(list, linefeeds, spaces, headers) else {
+        return ReplyAnswer::Malformed;
+    };
+    if out.len() < size {
+        return ReplyAnswer::SmallBuffer;
+    }
+    if 0 < list.len() {
+        return ReplyAnswer::Written(write_lines(list, linefeeds, spaces, headers, out));
+    }
+    ReplyAnswer::Written(put_text_reply(out, 0, b"NO DATA", linefeeds))
 }

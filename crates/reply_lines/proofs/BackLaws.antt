@@ -11,7 +11,7 @@ use Rattle.wire.specs.Text.{has, isSpace}
 use Rattle.wire.proofs.Cases.{at-below}
 use Rattle.hex.specs.Digits.{hexDigit, hexByte, hexId, hexBytes}
 use Rattle.hex.proofs.All.{All, all-append}
-use Rattle.hex.proofs.DigitLaws.{digit-low, digits-all, bytes-all, bytes-back, id-back}
+use Rattle.hex.proofs.DigitLaws.{digit-between, digits-all, bytes-all, bytes-back, id-back}
 use Rattle.line_list.specs.Lines.{line}
 use Rattle.reply_lines.specs.Lines.{splitCR, before, trimEnd, trimmed, stays, textLines, unspaced}
 use Rattle.reply_lines.specs.Decode.{textLine}
@@ -74,7 +74,7 @@ plain-unspaced (c ∷ s) a = let h = a .0 .0 in rw (ne-eqb c 32 (omega arith), p
 -- they are plain
 digit-plain : (d : ℕ) → d < 16 → Plain (hexDigit d)
 unfolding hexDigit
-digit-plain d h = (omega (arith, digit-low d h), λ e. prompt (hexDigit d) e (at-below 16 (λ d. not (eqb (hexDigit d) 62)) tt d h))
+digit-plain d h = (omega (arith, digit-between d h .0), λ e. prompt (hexDigit d) e (at-below 16 (λ d. not (eqb (hexDigit d) 62)) tt d h))
   where
     prompt : (c : ℕ) → c ≡ 62 → T (not (eqb c 62)) → ⊥
     prompt c e t = rw e at t

@@ -3,4 +3,3 @@ pub mod TurnLaws
 pub mod LineLaws
 pub mod DecodeLaws
 pub mod BackLaws
-pub mod Cards

@@ -1,3 +1,4 @@
 pub mod Values
 pub mod Learn
 pub mod Read
+pub mod Steps

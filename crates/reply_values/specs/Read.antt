@@ -39,6 +39,9 @@ pub record Asked : Type 0 where
   pub lengths : List ℕ
   pub counts : List ℕ
 
+abbrev pub asked : Bool → Bool → List ℕ → List ℕ → List ℕ → Asked
+asked framing several pids lengths counts = record { framing = framing; several = several; pids = pids; lengths = lengths; counts = counts }
+
 abbrev pub readValues : Asked → List ℕ → List Value → List ℕ → Read
 readValues q lengths vs out =
     let text = valuesBytes (answerOrder vs) in

@@ -6,8 +6,9 @@ use mathlib.Core.List.{List, [], _∷_, _++_}
 use Prim.Native.Nat.{ℕ, zero, suc, _+_, _-_}
 use lib.Dec.{eqb, ltb, leb}
 use lib.ListN.{length}
+use lib.Seq.{sets}
 use Rattle.wire.specs.Answer.{Answer, result, refused}
-use Rattle.wire.specs.Text.{ascii, begins}
+use Rattle.wire.specs.Text.{ascii, begins, isSpace, raised}
 use Rattle.client_state.specs.Settings.{Settings}
 use Rattle.reply.specs.Shape.{chipReply}
 use Rattle.server_session.specs.declared.Phase.{Phase}
@@ -17,14 +18,6 @@ use Rattle.server_session.specs.declared.ByteAnswer.the-variants as answ
 use Rattle.server_session.specs.declared.ByteStep.{ByteStep}
 use Rattle.server_session.specs.declared.BytesStep.{BytesStep}
 use Rattle.server_session.specs.Session.{Session, session, isReading, Said, saying, refusing, Served}
-
--- 09 to 0D and 20
-unfoldable pub isSpace : ℕ → Bool
-isSpace b = (leb 9 b && leb b 13) || eqb b 32
-
--- a to z raised
-unfoldable pub raised : ℕ → ℕ
-raised b = cond (leb 97 b && leb b 122) (b - 32) b
 
 -- the command of a line
 unfoldable pub canonical : List ℕ → List ℕ
@@ -44,8 +37,12 @@ byteNumber room s b =
 abbrev pub withLine : Session → List ℕ → Phase → Session
 withLine s l p = record { state = s .state; line = l; phase = p }
 
+-- what is sent back of some bytes
+abbrev pub echoes : Session → List ℕ → List ℕ
+echoes s bs = cond (s .state .echo) bs []
+
 abbrev pub echoed : Session → ℕ → List ℕ
-echoed s b = cond (s .state .echo) (b ∷ []) []
+echoed s b = echoes s (b ∷ [])
 
 -- the kind of a command
 abbrev pub commandPhase : List ℕ → Phase
@@ -108,3 +105,18 @@ bytesSay room s [] = record { answer = result (s .phase); taken = 0; next = s; t
 bytesSay room s (b ∷ bs) =
     let d = byteSays room s b in
     stopOr s d (d .answer) (bytesSay (room - length (d .text)) (d .next) bs)
+
+-- Several bytes as the host sees them: the answer, how many of them were taken, how many bytes stand in the lent out buffer, the next session, and the buffer.
+pub record ServedBytes : Type 0 where
+  pub answer : Answer Phase
+  pub taken : ℕ
+  pub written : ℕ
+  pub next : Session
+  pub out : List ℕ
+
+abbrev pub bytesServed : BytesStep → List ℕ → ServedBytes
+bytesServed r out = record { answer = byteAnswer (r .answer); taken = r .taken; written = r .written; next = session (r .session); out = out }
+
+-- the bytes to send stand at the front of the lent buffer, and past them it keeps what it held
+abbrev pub lentBytes : Heard → List ℕ → ServedBytes
+lentBytes h out = record { answer = h .answer; taken = h .taken; written = length (h .text); next = h .next; out = sets out 0 (h .text) }

@@ -1,2 +1,4 @@
 pub mod Session
 pub mod Bytes
+pub mod Replies
+pub mod Steps

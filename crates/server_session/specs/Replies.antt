@@ -35,24 +35,20 @@ isObd ObdCommand = true
 abbrev pub answered : Settings → List ℕ → Said (Unit {0})
 answered s text = saying tt (record { state = s; line = []; phase = Reading }) text
 
--- an AT answer: 1, 3 for an identity string over 32 bytes, 4 for a byte of 80 or more in one, 6 for room under 48
-abbrev pub atNumber : ℕ → Session → List ℕ → List ℕ → ℕ
-atNumber room s ati device =
-    cond (isAt (s .phase))
-    (cond (ltb 32 (length ati) || ltb 32 (length device)) 3
-    (cond (high ati || high device) 4
-    (cond (ltb room 48) 6 0)))
-    1
-
 abbrev pub atAnswered : Session → List ℕ → List ℕ → Said (Unit {0})
 atAnswered s ati device =
     let kind = atKind (s .line) in
     let next = kindSettings kind (s .state) in
     answered next (chipReply (next .linefeeds) (kindLines ati device kind))
 
+-- an AT answer: 1, 3 for an identity string over 32 bytes, 4 for a byte of 80 or more in one, 6 for room under 48
 unfoldable pub answerSays : ℕ → Session → List ℕ → List ℕ → Said (Unit {0})
 answerSays room s ati device =
-    cond (eqb (atNumber room s ati device) 0) (atAnswered s ati device) (refusing (atNumber room s ati device) s)
+    cond (isAt (s .phase))
+    (cond (ltb 32 (length ati) || ltb 32 (length device)) (refusing 3 s)
+    (cond (high ati || high device) (refusing 4 s)
+    (cond (ltb room 48) (refusing 6 s) (atAnswered s ati device))))
+    (refusing 1 s)
 
 -- 6 exactly when the text is longer than the room
 abbrev pub ifRoom : ℕ → Session → Said (Unit {0}) → Said (Unit {0})

@@ -1,11 +1,20 @@
 // The server end of the wire protocol: it plays an ELM327 to a reader (server_session.rs of the Rust). Each call takes the session by value and gives the
 // next one back.
+mod replies;
+
 use client_state::ClientState;
 ghost use mathlib.Core.Path.{_≡_};
-ghost use lib.ListN.{length};
+ghost use mathlib.Core.Bool.{cond, _&&_, not};
+ghost use mathlib.Core.List.{[], _∷_};
+ghost use Prim.Native.Nat.{_+_, _-_, _≤_, min};
+ghost use lib.Dec.{eqb, leb};
+ghost use lib.ListN.{length, take};
+ghost use Rattle.wire.specs.Answer.{result};
 ghost use Rattle.wire.specs.Put.{Put};
-ghost use Rattle.server_session.specs.Session.{session, freshSession, lent};
-ghost use Rattle.server_session.specs.Bytes.{isSpace, raised, canonical, byteNumber, byteSays, byteServed, bytesSay};
+ghost use Rattle.wire.specs.Text.{ascii, begins};
+ghost use Rattle.server_session.specs.Session.{session, freshSession, isReading, lent};
+ghost use Rattle.server_session.specs.Bytes.{canonical, byteNumber, emptyLine, lineEnd, byteTaken, byteSays, byteAnswer, byteServed, bytesSay, bytesServed, lentBytes};
+ghost use Rattle.server_session.specs.Steps.{Does, numbered, goesOn, counted, isSpecial, RunFits, Ran};
 
 // Whose turn it is.
 pub enum Phase {
@@ -57,6 +66,205 @@ pub struct BytesStep {
     pub session: ServerSession,
 }
 
+// What an answer, a reply or a rejection did.
+pub enum ServerAnswer {
+    // It is to be sent, and the next line is read.
+    Sent,
+    // 1: no command of its kind is handed out.
+    OutOfTurn,
+    // 3: an identity string over 32 bytes, or a rejection over 64.
+    TooLong,
+    // 4: a byte of 80 or more in one of them.
+    NotAscii,
+    // 5: not a line list.
+    Malformed,
+    // 6: out is too small.
+    SmallBuffer,
+}
+
+pub struct ReplyStep {
+    pub answer: ServerAnswer,
+    // How many bytes of out are to be sent.
+    pub written: usize,
+    pub session: ServerSession,
+}
+
+// A run of bytes that joined the line: how many, and the position in out after what they sent back.
+struct Run {
+    count: usize,
+    at: usize,
+}
+
+fn is_reading(phase: Phase) -> bool
+    ensures { λ r. ⌜ r ≡ isReading phase ⌝ }
+{
+    match phase {
+        Phase::Reading => true,
+        Phase::AtCommand => false,
+        Phase::ObdCommand => false,
+    }
+}
+
+// The answer to no byte at all.
+fn phase_answer(phase: Phase) -> ByteAnswer
+    ensures { λ r. ⌜ byteAnswer r ≡ result phase ⌝ }
+{
+    match phase {
+        Phase::Reading => ByteAnswer::Taken,
+        Phase::AtCommand => ByteAnswer::AtCommand,
+        Phase::ObdCommand => ByteAnswer::ObdCommand,
+    }
+}
+
+fn goes_on(answer: ByteAnswer) -> bool
+    ensures { λ r. ⌜ r ≡ goesOn (byteAnswer answer) ⌝ }
+{
+    match answer {
+        ByteAnswer::Taken => true,
+        ByteAnswer::AtCommand => false,
+        ByteAnswer::ObdCommand => false,
+        ByteAnswer::OutOfTurn => false,
+        ByteAnswer::SmallBuffer => false,
+        ByteAnswer::NotAscii => false,
+        ByteAnswer::LineFull => false,
+    }
+}
+
+// How many bytes were taken, by the answer to one.
+fn counts(answer: ByteAnswer) -> usize
+    ensures { λ r. ⌜ r ≡ counted (byteAnswer answer) ⌝ }
+{
+    match answer {
+        ByteAnswer::Taken => 1,
+        ByteAnswer::AtCommand => 1,
+        ByteAnswer::ObdCommand => 1,
+        ByteAnswer::OutOfTurn => 0,
+        ByteAnswer::SmallBuffer => 0,
+        ByteAnswer::NotAscii => 0,
+        ByteAnswer::LineFull => 0,
+    }
+}
+
+// Whether a byte does more than join the line.
+fn is_special(byte: u8) -> bool
+    ensures { λ r. ⌜ r ≡ isSpecial byte ⌝ }
+{
+    if 128 <= byte {
+        return true;
+    }
+    if byte == b'\r' {
+        return true;
+    }
+    byte == b'\n'
+}
+
+// Whether a line of that size has no place for a byte: CR and LF need none.
+fn is_full(size: usize, byte: u8) -> bool
+    ensures { λ r. ⌜ r ≡ leb 128 size && (not (eqb byte 13) && not (eqb byte 10)) ⌝ }
+{
+    if size < 128 {
+        return false;
+    }
+    if byte == b'\r' {
+        return false;
+    }
+    if byte == b'\n' {
+        return false;
+    }
+    true
+}
+
+// The lesser of two counts.
+fn lesser(a: usize, b: usize) -> usize
+    ensures { λ r. ⌜ r ≡ min a b ⌝ }
+{
+    if a < b {
+        return a;
+    }
+    b
+}
+
+// How much of a buffer is left from a position on.
+fn room_at(size: usize, at: usize) -> usize
+    ensures { λ r. ⌜ r ≡ size - at ⌝ }
+{
+    if at < size {
+        return size - at;
+    }
+    0
+}
+
+// Makes the first size bytes of a line their command, in place: how many bytes it has.
+fn make_canonical(line: &mut [u8; 128], size: usize) -> usize
+    requires { ⌜ (size ≤ 128) × (length (now line) ≡ 128) ⌝ }
+    ensures { λ r. ⌜ (take r (now (line .exit)) ≡ canonical (take size (now (line .entry)))) × (length (now (line .exit)) ≡ 128) ⌝ }
+{
+    let mut n: usize = 0;
+    let mut i: usize = 0;
+    while i < size {
+        let b = line[i];
+        if wire::is_space(b) {
+            i += 1;
+            continue;
+        }
+        line[n] = wire::raise(b);
+        n += 1;
+        i += 1;
+    }
+    n
+}
+
+// Whether the first n bytes of a line start with AT.
+fn is_at(line: &[u8; 128], n: usize) -> bool
+    ensures { λ r. ⌜ r ≡ begins (take n (now (line .entry))) (ascii "AT") ⌝ }
+{
+    if n < 2 {
+        return false;
+    }
+    if line[0] == b'A' {
+        return line[1] == b'T';
+    }
+    false
+}
+
+// A byte is sent back where echo is on.
+fn put_echo(out: &mut [u8], at: usize, echo: bool, b: u8) -> usize
+    ensures { λ r. ⌜ Put (now (out .entry)) at (cond echo (b ∷ []) []) r (now (out .exit)) ⌝ }
+{
+    if echo {
+        return wire::put_byte(out, at, b);
+    }
+    at
+}
+
+// Lets bytes of the input from i on join the line and sends them back, up to the first special one, at most most of them.
+fn join_run(
+    line: &mut [u8; 128],
+    len: usize,
+    input: &[u8],
+    i: usize,
+    out: &mut [u8],
+    at: usize,
+    echo: bool,
+    most: usize,
+) -> Run
+    requires { ⌜ (len + most ≤ 128) × (length (now line) ≡ 128) × (i + most ≤ length (now input)) ⌝ }
+    ensures { λ r. ⌜ Ran (now (line .entry)) len (now (input .entry)) i (now (out .entry)) at echo most r (now (line .exit)) (now (out .exit)) ⌝ }
+{
+    let mut n: usize = 0;
+    let mut end = at;
+    while n < most {
+        let b = input[i + n];
+        if is_special(b) {
+            return Run { count: n, at: end };
+        }
+        line[len + n] = b;
+        end = put_echo(out, end, echo, b);
+        n += 1;
+    }
+    Run { count: n, at: end }
+}
+
 impl ServerSession {
     // A session with fresh settings, that waits for a line.
     pub fn new() -> ServerSession
@@ -65,8 +273,227 @@ impl ServerSession {
         ServerSession {
             state: ClientState::default(),
             line: [0; 128],
-            len: 0,
-            phase: Phase::Reading,
+            len: 0, // no byte is read
+            phase: Phase::Reading, // nor a command handed out
+        }
+    }
+
+    // How many bytes of line are the line as far as it is read, or the command handed out, whatever len holds.
+    pub fn command_size(self) -> usize
+        ensures { λ r. ⌜ r ≡ length (session self .line) ⌝ }
+    {
+        let n = self.len;
+        if n < 128 {
+            return n;
+        }
+        128
+    }
+
+    // The number that a byte gets, or Taken.
+    fn refusal(self, b: u8, room: usize) -> ByteAnswer
+        ensures { λ r. ⌜ byteAnswer r ≡ numbered (byteNumber room (session self) b) ⌝ }
+    {
+        let phase = self.phase;
+        let full = is_full(self.command_size(), b);
+        if is_reading(phase) {
+            if room < 8 {
+                return ByteAnswer::SmallBuffer;
+            }
+            if 128 <= b {
+                return ByteAnswer::NotAscii;
+            }
+            if full {
+                return ByteAnswer::LineFull;
+            }
+            return ByteAnswer::Taken;
+        }
+        ByteAnswer::OutOfTurn
+    }
+
+    // The end of an empty line: the last command is handed out, or `?` is written when there is none.
+    fn end_empty(self, out: &mut [u8], at: usize) -> ByteStep
+        ensures { λ r. ⌜ Does (emptyLine (session self) [] (session self .state .last)) (now (out .entry)) at r (now (out .exit)) ⌝ }
+    {
+        let state = self.state;
+        let size = state.last_size();
+        if size == 0 {
+            let line = self.line;
+            let end = reply::put_text_reply(out, at, b"?", state.linefeeds_enabled);
+            return ByteStep {
+                answer: ByteAnswer::Taken,
+                written: end,
+                session: ServerSession {
+                    state: state,
+                    line: line,
+                    len: 0,
+                    phase: Phase::Reading,
+                },
+            };
+        }
+        let last = state.last_obd_command;
+        ByteStep {
+            answer: ByteAnswer::ObdCommand,
+            written: at,
+            session: ServerSession {
+                state: state,
+                line: last,
+                len: size,
+                phase: Phase::ObdCommand,
+            },
+        }
+    }
+
+    // The end of a line: its command is handed out.
+    fn end_line(self, out: &mut [u8], at: usize) -> ByteStep
+        ensures { λ r. ⌜ Does (lineEnd (session self) [] (canonical (session self .line))) (now (out .entry)) at r (now (out .exit)) ⌝ }
+    {
+        let mut line = self.line;
+        let size = self.command_size();
+        let n = make_canonical(&mut line, size);
+        if n == 0 {
+            return self.end_empty(out, at);
+        }
+        let state = self.state;
+        if is_at(&line, n) {
+            return ByteStep {
+                answer: ByteAnswer::AtCommand,
+                written: at,
+                session: ServerSession {
+                    state: state,
+                    line: line,
+                    len: n,
+                    phase: Phase::AtCommand,
+                },
+            };
+        }
+        ByteStep {
+            answer: ByteAnswer::ObdCommand,
+            written: at,
+            session: ServerSession {
+                state: state,
+                line: line,
+                len: n,
+                phase: Phase::ObdCommand,
+            },
+        }
+    }
+
+    // A byte that gets no number.
+    fn take(mut self, b: u8, out: &mut [u8], at: usize) -> ByteStep
+        requires { ⌜ byteNumber (length (now out) - at) (session self) b ≡ 0 ⌝ }
+        ensures { λ r. ⌜ Does (byteTaken (session self) b) (now (out .entry)) at r (now (out .exit)) ⌝ }
+    {
+        let state = self.state;
+        let end = put_echo(out, at, state.echo_enabled, b);
+        if b == b'\r' {
+            return self.end_line(out, end);
+        }
+        if b == b'\n' {
+            return ByteStep {
+                answer: ByteAnswer::Taken,
+                written: end,
+                session: self,
+            };
+        }
+        let len = self.len;
+        self.line[len] = b;
+        self.len = len + 1;
+        ByteStep {
+            answer: ByteAnswer::Taken,
+            written: end,
+            session: self,
+        }
+    }
+
+    // A byte, with what it sends written from a position on.
+    fn byte_at(self, b: u8, out: &mut [u8], at: usize) -> ByteStep
+        ensures { λ r. ⌜ Does (byteSays (length (now (out .entry)) - at) (session self) b) (now (out .entry)) at r (now (out .exit)) ⌝ }
+    {
+        let answer = self.refusal(b, room_at(out.len(), at));
+        if goes_on(answer) {
+            return self.take(b, out, at);
+        }
+        ByteStep {
+            answer: answer,
+            written: at,
+            session: self,
+        }
+    }
+
+    // One byte from the reader.
+    pub fn byte(self, b: u8, out: &mut [u8]) -> ByteStep
+        ensures { λ r. ⌜ byteServed r (now (out .exit)) ≡ lent (byteSays (length (now (out .entry))) (session self) b) (now (out .entry)) ⌝ }
+    {
+        self.byte_at(b, out, 0)
+    }
+
+    // How many bytes may join the line as a run, if none of them is special.
+    fn run_room(self, left: usize, free: usize) -> usize
+        ensures { λ r. ⌜ RunFits (session self) left free r ⌝ }
+    {
+        let phase = self.phase;
+        if is_reading(phase) {
+            if free < 8 {
+                return 0;
+            }
+            let state = self.state;
+            let most = lesser(left, 128 - self.command_size());
+            if state.echo_enabled {
+                return lesser(most, free - 8);
+            }
+            return most;
+        }
+        0
+    }
+
+    // Bytes from the reader, one after the other: it stops after the one that hands a command out, or before the one that gets a number. A run of bytes that
+    // just join the line is taken without a call for each.
+    pub fn bytes(self, input: &[u8], out: &mut [u8]) -> BytesStep
+        ensures { λ r. ⌜ bytesServed r (now (out .exit)) ≡ lentBytes (bytesSay (length (now (out .entry))) (session self) (now (input .entry))) (now (out .entry)) ⌝ }
+    {
+        let mut session = self;
+        let mut i: usize = 0;
+        let mut at: usize = 0;
+        loop {
+            let state = session.state;
+            let most = session.run_room(room_at(input.len(), i), room_at(out.len(), at));
+            let len = session.command_size();
+            let ran = join_run(
+                &mut session.line,
+                len,
+                input,
+                i,
+                out,
+                at,
+                state.echo_enabled,
+                most,
+            );
+            session.len = len + ran.count;
+            i = i + ran.count;
+            at = ran.at;
+            if input.len() <= i {
+                let phase = session.phase;
+                return BytesStep {
+                    answer: phase_answer(phase),
+                    taken: i,
+                    written: at,
+                    session: session,
+                };
+            }
+            let step = session.byte_at(input[i], out, at);
+            let answer = step.answer;
+            session = step.session;
+            at = step.written;
+            i = i + counts(answer);
+            if goes_on(answer) {
+                continue;
+            }
+            return BytesStep {
+                answer: answer,
+                taken: i,
+                written: at,
+                session: session,
+            };
         }
     }
 }

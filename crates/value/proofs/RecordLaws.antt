@@ -7,11 +7,10 @@ use native.Mathlib.Omega.{arith}
 use lib.ListN.{length, length-append}
 use Rattle.wire.proofs.Cases.{from-no}
 use Rattle.group.specs.Group.{Bytes, got, groupBytes, readNumber, andThen}
-use Rattle.group.proofs.GroupLaws.{groupBytes-some, read-written, only-written}
+use Rattle.group.proofs.GroupLaws.{groupBytes-some, read-written, only-written, then-got}
 use Rattle.value.specs.Values.{Value, valueBytes, valuesBytes, partBytes, recordBytes, readValue, readValues, readPart, readParts, readRecord}
 use Rattle.value.specs.Same.{SameQueries, SameRecord}
-use Rattle.value.proofs.Readings.{then-got, bytes-after}
-use Rattle.value.proofs.ValueLaws.{value-written, value-only}
+use Rattle.value.proofs.ValueLaws.{value-back, bytes-after, value-only}
 
 -- Each value's ECU+1 is at most 4,096.
 abbrev pub ValuesFit : List Value → Type 0
@@ -25,12 +24,12 @@ RecordFits (vs ∷ vss) = ValuesFit vs × RecordFits vss
 -- What was written is read back.
 
 -- some values, a query's part, a record
-pub values-written : (vs : List Value) (s : List ℕ) → ValuesFit vs → readValues (length vs) (valuesBytes vs ++ s) ≡ got vs s
-values-written [] s h = refl
-values-written (v ∷ vs) s h = rw (append-assoc (valueBytes v) (valuesBytes vs) s, value-written v (valuesBytes vs ++ s) (h .0), values-written vs s (h .1))
+pub values-back : (vs : List Value) (s : List ℕ) → ValuesFit vs → readValues (length vs) (valuesBytes vs ++ s) ≡ got vs s
+values-back [] s h = refl
+values-back (v ∷ vs) s h = rw (append-assoc (valueBytes v) (valuesBytes vs) s, value-back v (valuesBytes vs ++ s) (h .0), values-back vs s (h .1))
 
-pub part-written : (vs : List Value) (s : List ℕ) → ValuesFit vs → readPart (partBytes vs ++ s) ≡ got vs s
-part-written vs s h = rw (append-assoc (groupBytes (length vs)) (valuesBytes vs) s, read-written (length vs) (valuesBytes vs ++ s)) (values-written vs s h)
+pub part-back : (vs : List Value) (s : List ℕ) → ValuesFit vs → readPart (partBytes vs ++ s) ≡ got vs s
+part-back vs s h = rw (append-assoc (groupBytes (length vs)) (valuesBytes vs) s, read-written (length vs) (valuesBytes vs ++ s)) (values-back vs s h)
 
 -- a part has a byte
 part-some : (vs : List Value) (s : List ℕ) → length s < length (partBytes vs ++ s)
@@ -41,28 +40,28 @@ parts-more : (k : ℕ) (s : List ℕ) → 0 < length s → readParts (suc k) s �
 parts-more k [] h = absurd (omega arith)
 parts-more k (b ∷ s) h = refl
 
-parts-written : (k : ℕ) (vss : List (List Value)) → RecordFits vss → length (recordBytes vss) ≤ k → readParts k (recordBytes vss) ≡ got vss []
-parts-written zero [] h i = refl
-parts-written (suc k) [] h i = refl
-parts-written zero (vs ∷ vss) h i = absurd (omega (arith, part-some vs (recordBytes vss)))
-parts-written (suc k) (vs ∷ vss) h i =
+parts-back : (k : ℕ) (vss : List (List Value)) → RecordFits vss → length (recordBytes vss) ≤ k → readParts k (recordBytes vss) ≡ got vss []
+parts-back zero [] h i = refl
+parts-back (suc k) [] h i = refl
+parts-back zero (vs ∷ vss) h i = absurd (omega (arith, part-some vs (recordBytes vss)))
+parts-back (suc k) (vs ∷ vss) h i =
     let more = part-some vs (recordBytes vss) in
-    parts-more k (partBytes vs ++ recordBytes vss) (omega arith) ∙ rw (part-written vs (recordBytes vss) (h .0), parts-written k vss (h .1) (omega arith))
+    parts-more k (partBytes vs ++ recordBytes vss) (omega arith) ∙ rw (part-back vs (recordBytes vss) (h .0), parts-back k vss (h .1) (omega arith))
 
-pub record-written : (vss : List (List Value)) → RecordFits vss → readRecord (recordBytes vss) ≡ got vss []
+pub record-back : (vss : List (List Value)) → RecordFits vss → readRecord (recordBytes vss) ≡ got vss []
 unfolding readRecord
-record-written vss h = parts-written (length (recordBytes vss)) vss h (omega arith)
+record-back vss h = parts-back (length (recordBytes vss)) vss h (omega arith)
 
 -- a record has one reading
 pub record-same : (vss wss : List (List Value)) → RecordFits vss → RecordFits wss → recordBytes vss ≡ recordBytes wss → vss ≡ wss
 record-same vss wss h i q =
-    let g : got vss [] ≡ got wss [] = sym (record-written vss h) ∙ ap readRecord q ∙ record-written wss i in
+    let g : got vss [] ≡ got wss [] = sym (record-back vss h) ∙ ap readRecord q ∙ record-back wss i in
     cc
 
 -- two records are equal where their values are
 pub same-record : (vss wss : List (List Value)) → RecordFits vss → RecordFits wss → SameRecord (recordBytes vss) (recordBytes wss) ↔ SameQueries vss wss
 unfolding SameRecord
-same-record vss wss h i = rw (record-written vss h, record-written wss i) ((λ q. q), (λ q. q))
+same-record vss wss h i = rw (record-back vss h, record-back wss i) ((λ q. q), (λ q. q))
 
 -- What is read, of bytes, is what was written.
 

@@ -23,13 +23,13 @@ use Rattle.value.proofs.ValueLaws.{value-got}
 
 -- Past the end there is no value, and before it the definition reads one.
 
-pub step-end : (s : List ℕ) (at : ℕ) → length s ≤ at → valueAt s at ≡ result []
+pub at-end : (s : List ℕ) (at : ℕ) → length s ≤ at → valueAt s at ≡ result []
 unfolding valueAt
-step-end s at h = rw (drop-of-length-le s h)
+at-end s at h = rw (drop-of-length-le s h)
 
-step-here : (s : List ℕ) (at : ℕ) → at < length s → valueAt s at ≡ valueAnswer (length s) (readValue (getD s at 0 ∷ drop (at + 1) s))
+at-here : (s : List ℕ) (at : ℕ) → at < length s → valueAt s at ≡ valueAnswer (length s) (readValue (getD s at 0 ∷ drop (at + 1) s))
 unfolding valueAt
-step-here s at h = rw (add-one, drop-cons s at 0 h)
+at-here s at h = rw (add-one, drop-cons s at 0 h)
 
 -- A length above all that there is runs past the end.
 too-long : {B : Type 0} (limit : ℕ) (s : List ℕ) (k : List ℕ → List ℕ → Read B) → length s ≤ limit → readGroup limit s ≡ malformed →
@@ -62,16 +62,16 @@ few p e n s h =
     (λ f. rw f)
 
 -- no ECU+1
-pub step-no-ecu : (s : List ℕ) (at : ℕ) → at < length s → readGroup 4096 (drop (at + 1) s) ≡ malformed → valueAt s at ≡ refused 5
-step-no-ecu s at h q = step-here s at h ∙ rw q
+pub at-no-ecu : (s : List ℕ) (at : ℕ) → at < length s → readGroup 4096 (drop (at + 1) s) ≡ malformed → valueAt s at ≡ refused 5
+at-no-ecu s at h q = at-here s at h ∙ rw q
 
 -- ECU+1 was read
 module _ {s : List ℕ} {at e n : ℕ} (here : at < length s) (ecu : NumberAt 4096 s (at + 1) e n) where
   with-ecu : valueAt s at ≡ valueAnswer (length s) (andThen (readNumber (drop n s)) (λ k t. andThen (readBytes k t) (λ d t. singleOf (getD s at 0) e d t)))
-  with-ecu = step-here s at here ∙ rw (ecu .reads)
+  with-ecu = at-here s at here ∙ rw (ecu .reads)
 
-  pub step-no-length : readGroup (length s) (drop n s) ≡ malformed → valueAt s at ≡ refused 5
-  step-no-length q = with-ecu ∙ rw (too-long (length s) (drop n s) (singleOf (getD s at 0) e) (omega (arith, length-drop n s)) q)
+  pub at-no-length : readGroup (length s) (drop n s) ≡ malformed → valueAt s at ≡ refused 5
+  at-no-length q = with-ecu ∙ rw (too-long (length s) (drop n s) (singleOf (getD s at 0) e) (omega (arith, length-drop n s)) q)
 
 -- ECU+1 e and the length k were read of the value at a position; 41 should stand at m.
 pub record Sized (s : List ℕ) (at e n k m : ℕ) : Type 0 where
@@ -83,11 +83,11 @@ module _ {s : List ℕ} {at e n k m : ℕ} (w : Sized s at e n k m) where
   with-length : valueAt s at ≡ valueAnswer (length s) (andThen (readBytes k (drop m s)) (λ d t. singleOf (getD s at 0) e d t))
   with-length = with-ecu (w .here) (w .ecu) ∙ rw (group-got (length s) k (drop n s) (drop m s) (w .len .reads) .1)
 
-  pub step-few : k < 2 → valueAt s at ≡ refused 5
-  step-few h = with-length ∙ rw (few (getD s at 0) e k (drop m s) h)
+  pub at-few : k < 2 → valueAt s at ≡ refused 5
+  at-few h = with-length ∙ rw (few (getD s at 0) e k (drop m s) h)
 
-  pub step-past : length s - m < k → valueAt s at ≡ refused 5
-  step-past h = with-length ∙ rw (lt-leb k (length (drop m s)) (omega (arith, length-drop m s)))
+  pub at-past : length s - m < k → valueAt s at ≡ refused 5
+  at-past h = with-length ∙ rw (lt-leb k (length (drop m s)) (omega (arith, length-drop m s)))
 
   -- there are as many bytes as the length says
   module _ (two : 2 ≤ k) (fits : k ≤ length s - m) where
@@ -100,14 +100,14 @@ module _ {s : List ℕ} {at e n k m : ℕ} (w : Sized s at e n k m) where
         with-length ∙
         rw (le-leb k (length (drop m s)) (omega (arith, length-drop m s)), take-two s m k two (omega (arith, w .len .inside)), drop-drop k m s)
 
-    pub step-no-41 : (getD s m 0 ≡ 0x41 → ⊥) → valueAt s at ≡ refused 5
-    step-no-41 h = with-single ∙ rw (ne-eqb _ _ h)
+    pub at-no-41 : (getD s m 0 ≡ 0x41 → ⊥) → valueAt s at ≡ refused 5
+    at-no-41 h = with-single ∙ rw (ne-eqb _ _ h)
 
-    pub step-other-pid : getD s m 0 ≡ 0x41 → (getD s (m + 1) 0 ≡ getD s at 0 → ⊥) → valueAt s at ≡ refused 5
-    step-other-pid g h = with-single ∙ rw (eq-eqb _ _ g, ne-eqb _ _ h)
+    pub at-other-pid : getD s m 0 ≡ 0x41 → (getD s (m + 1) 0 ≡ getD s at 0 → ⊥) → valueAt s at ≡ refused 5
+    at-other-pid g h = with-single ∙ rw (eq-eqb _ _ g, ne-eqb _ _ h)
 
-    pub step-value : getD s m 0 ≡ 0x41 → getD s (m + 1) 0 ≡ getD s at 0 → valueAt s at ≡ result (getD s at 0 ∷ e ∷ (m + 2) ∷ (m + k) ∷ [])
-    step-value g h =
+    pub at-value : getD s m 0 ≡ 0x41 → getD s (m + 1) 0 ≡ getD s at 0 → valueAt s at ≡ result (getD s at 0 ∷ e ∷ (m + 2) ∷ (m + k) ∷ [])
+    at-value g h =
         let after : length s - length (drop (m + k) s) ≡ m + k = omega (arith, length-drop (m + k) s) in
         let size : length (take (k - 2) (drop (m + 2) s)) ≡ k - 2 = length-take-le (k - 2) (drop (m + 2) s) (omega (arith, length-drop (m + 2) s)) in
         let start : m + k - (k - 2) ≡ m + 2 = omega arith in
@@ -147,9 +147,9 @@ ends-value s v rest q =
 
 -- A value that stands at a position, with the position where its data starts and the one after it.
 pub record ValueHere (s : List ℕ) (at pid ecu start next : ℕ) : Type 0 where
-  pub within : ecu ≤ 4096
+  pub known : ecu ≤ 4096
   pub after : at < start
-  pub order : start ≤ next
+  pub ordered : start ≤ next
   pub inside : next ≤ length s
   pub reads : readValue (drop at s) ≡ got (value pid ecu (take (next - start) (drop start s))) (drop next s)
 
@@ -190,29 +190,29 @@ value-place s at v rest p e a n q f g i j =
     let bytes : take (n - a) (drop a s) ≡ v .bytes = ap (take (n - a)) body ∙ take-at (v .bytes) rest (n - a) span in
     let end : drop n s ≡ rest = ap (λ m. drop m s) (sym past) ∙ sym (drop-drop (length (v .bytes)) a s) ∙ ap (drop (length (v .bytes))) body ∙ drop-append-seam (v .bytes) rest in
     record {
-      within = rw (← g) (w .0);
+      known = rw (← g) (w .0);
       after = omega (arith, w .1);
-      order = omega (arith, w .1);
+      ordered = omega (arith, w .1);
       inside = omega (arith, w .1);
       reads = rw (← f, ← g, bytes, end) q;
     }
 
 module _ (s : List ℕ) (at : ℕ) {r : ValueStep} (q : valueStep r ≡ valueAt s at) where
   -- what a step tells by a value
-  pub value-here : {pid ecu start : ℕ} {next : ValueCursor} → r ≡ step.Value pid ecu start next → ValueHere s at pid ecu start (next .at)
+  pub step-value : {pid ecu start : ℕ} {next : ValueCursor} → r ≡ step.Value pid ecu start next → ValueHere s at pid ecu start (next .at)
   unfolding valueAt
-  value-here {pid} {ecu} {start} {next} e =
+  step-value {pid} {ecu} {start} {next} e =
       let (v, rest, g, i, j, k, l) = of-value (length s) (drop at s) pid ecu start (next .at) (sym q ∙ ap valueStep e) in
       value-place s at v rest pid ecu start (next .at) g i j k l
 
   -- by the end
-  pub end-here : r ≡ step.End → length s ≤ at
+  pub step-end : r ≡ step.End → length s ≤ at
   unfolding valueAt
-  end-here e = omega (arith, ap length (of-end (length s) (drop at s) (sym q ∙ ap valueStep e)), length-drop at s)
+  step-end e = omega (arith, ap length (of-end (length s) (drop at s) (sym q ∙ ap valueStep e)), length-drop at s)
 
   -- and by none
-  pub none-here : r ≡ step.Malformed → (at < length s) × (readValue (drop at s) ≡ malformed)
+  pub step-none : r ≡ step.Malformed → (at < length s) × (readValue (drop at s) ≡ malformed)
   unfolding valueAt
-  none-here e =
+  step-none e =
       let w = of-none (length s) (drop at s) (sym q ∙ ap valueStep e) in
       (omega (arith, w .0, length-drop at s), w .1)

@@ -9,9 +9,8 @@ use lib.Seq.{length-take-le}
 use borrow.Author.Tests.{eqb-true, eq-eqb}
 use Rattle.wire.proofs.Cases.{by-test, from-no}
 use Rattle.group.specs.Group.{Bytes, got, groupBytes, readNumber, readGroup, readBytes, andThen}
-use Rattle.group.proofs.GroupLaws.{read-written, group-written, group-got, only-written}
+use Rattle.group.proofs.GroupLaws.{read-written, group-written, group-got, only-written, bytes-written, bytes-got, then-got, bytes-append}
 use Rattle.value.specs.Values.{Value, value, valueBytes, singleOf, readValue}
-use Rattle.value.proofs.Readings.{bytes-written, bytes-got, then-got, bytes-after}
 
 -- how long a value is
 pub value-length : (v : Value) → length (valueBytes v) ≡ 3 + length (groupBytes (v .ecu)) + length (groupBytes (2 + length (v .bytes))) + length (v .bytes)
@@ -78,14 +77,18 @@ value-got (p ∷ s) v rest q =
     parts-got p e n s s₁ s₂ s₃ b v rest g₁ g₂ g₃ q₃
 
 -- a value is read back as it was written
-pub value-written : (v : Value) (s : List ℕ) → v .ecu ≤ 4096 → readValue (valueBytes v ++ s) ≡ got v s
-value-written v s h = value-in (record {
+pub value-back : (v : Value) (s : List ℕ) → v .ecu ≤ 4096 → readValue (valueBytes v ++ s) ≡ got v s
+value-back v s h = value-in (record {
   rest₁ = _;
   rest₂ = _;
   first = value-flat v s;
   second = group-written 4096 (v .ecu) _ h;
   third = read-written (2 + length (v .bytes)) _;
 })
+
+-- what follows some bytes is bytes
+pub bytes-after : (a t : List ℕ) {s : List ℕ} → Bytes s → s ≡ a ++ t → Bytes t
+bytes-after a t bs q = bytes-append a t (rw q at bs) .1
 
 -- what is accepted is what the value is written as
 pub value-only : (s : List ℕ) (v : Value) (rest : List ℕ) → Bytes s → readValue s ≡ got v rest → (v .ecu ≤ 4096) × (s ≡ valueBytes v ++ rest)

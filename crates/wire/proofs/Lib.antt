@@ -2,3 +2,4 @@ pub mod PutLaws
 pub mod Cases
 pub mod Rules
 pub mod TextLaws
+pub mod ListLaws

@@ -1,7 +1,7 @@
 // Bytes written into lent buffers, and texts looked at. Every writer of this library stores as far as the buffer reaches
 // and returns the position after what it stored, so writers follow one another with nothing asked in between.
 ghost use Rattle.wire.specs.Put.{Put};
-ghost use Rattle.wire.specs.Text.{same, begins, has, high, isSpace};
+ghost use Rattle.wire.specs.Text.{same, begins, has, high, isSpace, raised};
 ghost use mathlib.Core.List.{[], _∷_};
 ghost use mathlib.Core.Path.{_≡_};
 
@@ -95,4 +95,17 @@ pub fn is_space(b: u8) -> bool
         return true;
     }
     b == 32
+}
+
+// A letter a to z raised, and any other byte as it is.
+pub fn raise(b: u8) -> u8
+    ensures { λ r. ⌜ r ≡ raised b ⌝ }
+{
+    if b < 97 {
+        return b;
+    }
+    if b <= 122 {
+        return b - 32;
+    }
+    b
 }

@@ -1,0 +1,2 @@
+pub mod KindLaws
+mod Laws

@@ -1,0 +1,47 @@
+-- Every starred card holds of the definitions, by computation.
+use mathlib.Core.Path.{_≡_, refl}
+use mathlib.Core.Bool.{true}
+use mathlib.Core.List.{List}
+use Prim.Native.Nat.{ℕ}
+use lib.ListN.{replicate}
+use Rattle.wire.specs.Answer.{result, refused}
+use Rattle.wire.specs.Text.{has, high, isSpace, raised}
+use Rattle.hex.specs.Digits.{hexDigit}
+use Rattle.hex.specs.Read.{digit, leading}
+use Rattle.pid.specs.J1979.{j1979}
+use Rattle.pid.specs.Lengths.{mode01Lengths}
+use Rattle.group.specs.Group.{groupBytes}
+use Rattle.line_list.specs.Lines.{lineList}
+use Rattle.value.specs.Values.{valueBytes}
+use Rattle.at_command.specs.Dialect.{atKind}
+use Rattle.reply.specs.Reply.{lineText, replyText}
+use Rattle.server_session.specs.Session.{freshSession}
+use Rattle.server_session.specs.Bytes.{canonical, byteNumber, byteTaken, byteSays, Heard, bytesSay}
+use Rattle.client_session.specs.Session.{freshClient}
+use Rattle.server_session.specs.Replies.{answerSays, replySays}
+use Rattle.query.specs.Query.{queryText}
+use Rattle.reply_lines.specs.Lines.{textLines}
+use Rattle.reply_lines.specs.Decode.{textLine, replyLines}
+use Rattle.reply_values.specs.Values.{walked, answerOrder}
+use Rattle.client_session.specs.Start.{queryPidsSays}
+use Rattle.cards.specs.Cards.{cards, Hold}
+
+pub cards-hold : Hold cards
+unfolding has high isSpace raised hexDigit digit leading j1979 mode01Lengths groupBytes lineList valueBytes atKind lineText replyText canonical byteNumber byteTaken byteSays bytesSay answerSays replySays queryText textLines textLine replyLines walked answerOrder queryPidsSays
+cards-hold = (refl, (refl, (refl, (refl, (refl, (refl, (refl, (refl, (refl, (refl, (refl, (refl, (refl, tt)))))))))))))
+
+-- card 13: six PIDs pass, seven get 2; byte 128 of a line is stored, the next gets 10
+pub six-pids : queryPidsSays 80 (freshClient true true) (replicate 6 0x0C) 0 .answer ≡ result tt
+unfolding queryPidsSays
+six-pids = refl
+
+pub seven-pids : queryPidsSays 80 (freshClient true true) (replicate 7 0x0C) 0 .answer ≡ refused 2
+unfolding queryPidsSays
+seven-pids = refl
+
+abbrev long : Heard
+long = bytesSay 256 freshSession (replicate 129 65)
+
+pub long-line : (long .answer ≡ refused 10) × (long .taken ≡ 128) × (long .next .line ≡ replicate 128 65)
+unfolding bytesSay byteSays byteNumber byteTaken
+long-line = (refl, refl, refl)

@@ -1,0 +1,74 @@
+-- Document 01, "Bench cards": the starred ones, as one list of what the definitions give and what the cards say, in bytes.
+use mathlib.Core.Bool.{Bool, true, false}
+use mathlib.Core.List.{List, [], _∷_, _++_}
+use mathlib.Core.Path.{_≡_}
+use Prim.Native.Nat.{ℕ}
+use Prim.Native.String.{String}
+use Rattle.wire.specs.Text.{ascii}
+use Rattle.client_state.specs.Settings.{Settings}
+use Rattle.line_list.specs.Lines.{Line, line, linesBytes}
+use Rattle.value.specs.Values.{valuesBytes}
+use Rattle.pid.specs.Lengths.{mode01Lengths}
+use Rattle.reply_lines.specs.Decode.{replyLines}
+use Rattle.reply_values.specs.Values.{valuesOf}
+use Rattle.server_session.specs.Session.{Session, freshSession}
+use Rattle.server_session.specs.declared.Phase.the-variants.{ObdCommand}
+use Rattle.server_session.specs.Bytes.{Heard, bytesSay}
+use Rattle.server_session.specs.Replies.{answerSays, replySays}
+use Rattle.client_session.specs.Session.{freshClient}
+use Rattle.client_session.specs.Start.{queryPidsSays}
+
+-- A card's number, what a definition gives, and what the card says.
+pub record Card : Type 0 where
+  pub number : ℕ
+  pub given : List ℕ
+  pub said : List ℕ
+
+abbrev card : ℕ → List ℕ → List ℕ → Card
+card n g s = record { number = n; given = g; said = s }
+
+-- a reply of one line, framed or not: its lines (ECU+1, length, data) and its values
+abbrev oneLine : String → List ℕ
+oneLine t = ascii t ++ (13 ∷ 13 ∷ 62 ∷ [])
+
+abbrev lines : Bool → String → List ℕ
+lines framing t = linesBytes (replyLines framing (oneLine t))
+
+abbrev values : Bool → String → List ℕ
+values framing t = valuesBytes (valuesOf mode01Lengths (replyLines framing (oneLine t)))
+
+-- what a server with some settings replies to a handed-out command
+abbrev replies : Settings → Line → List ℕ
+replies s l = replySays 64 (record { state = s; line = ascii "010D"; phase = ObdCommand }) (linesBytes (l ∷ [])) .text
+
+abbrev set : Bool → Bool → Bool → Settings
+set linefeeds spaces headers = record { echo = true; linefeeds = linefeeds; spaces = spaces; headers = headers; last = [] }
+
+-- what a fresh server sends for some bytes, and what it then answers to an AT command
+abbrev heard : String → Heard
+heard t = bytesSay 64 freshSession (ascii t)
+
+abbrev atAnswer : String → List ℕ
+atAnswer t = answerSays 64 (heard t .next) (ascii "ELM327 v1.5") (ascii "ELM327") .text
+
+abbrev pub cards : List Card
+cards =
+    card 1 (values true "7E8 04 41 0C 1A F8") (0x0C ∷ 0xE9 ∷ 0x0F ∷ 0x04 ∷ 0x41 ∷ 0x0C ∷ 0x1A ∷ 0xF8 ∷ []) ∷
+    card 2 (lines false "NO DATA") (0 ∷ 1 ∷ 0xDA ∷ []) ∷
+    card 2 (values false "NO DATA") [] ∷
+    card 3 (lines true "NO DATA") (1 ∷ 0 ∷ []) ∷
+    card 4 (values true "A12") (0x31 ∷ 0x00 ∷ 0x03 ∷ 0x41 ∷ 0x31 ∷ 0x32 ∷ []) ∷
+    card 5 (values false "41 0C 1A F8 0D 20") (0x0C ∷ 0 ∷ 4 ∷ 0x41 ∷ 0x0C ∷ 0x1A ∷ 0xF8 ∷ 0x0D ∷ 0 ∷ 3 ∷ 0x41 ∷ 0x0D ∷ 0x20 ∷ []) ∷
+    card 6 (lines false "+41") (0 ∷ 1 ∷ 0x04 ∷ []) ∷
+    card 7 (replies (set true true false) (line 0 (0x41 ∷ 0x0D ∷ 0x20 ∷ []))) (ascii "41 0D 20\r\n\r\n>") ∷
+    card 8 (replies (set false false true) (line 0 (0x41 ∷ 0x0D ∷ 0x20 ∷ []))) (ascii "7E803410D20\r\r>") ∷
+    card 9 (replies (set true true true) (line 0 [])) (ascii "7E8 00 \r\n\r\n>") ∷
+    card 10 (heard "\r" .text) (ascii "\r?\r\n\r\n>") ∷
+    card 11 (queryPidsSays 80 (freshClient true true) (0x0C ∷ 0x0D ∷ []) 2 .text) (ascii "010C0D 1\r") ∷
+    card 12 (heard "ATL0\r" .text ++ atAnswer "ATL0\r") (ascii "ATL0\rOK\r\r>") ∷
+    []
+
+-- each card is as it says
+abbrev pub Hold : List Card → Type 0
+Hold [] = Unit {0}
+Hold (c ∷ cs) = (c .given ≡ c .said) × Hold cs

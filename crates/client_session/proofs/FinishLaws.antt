@@ -1,0 +1,104 @@
+-- Laws of a finish: what reading the reply says of the query, and the reply that the store holds.
+use mathlib.Core.Path.{_≡_, refl, sym, ap, _∙_}
+use mathlib.Core.List.{List, [], _∷_}
+use Prim.Native.Nat.{ℕ, _≤_, min}
+use lib.Dec.{ltb}
+use lib.ListN.{length, take}
+use lib.Seq.{sets, take-all}
+use Rattle.wire.specs.Answer.{Answer, result, refused}
+use Rattle.wire.proofs.Cases.{by-test, from-no}
+use Rattle.wire.proofs.ListLaws.{take-min}
+use Rattle.line_list.specs.Lines.{Line}
+use Rattle.value.specs.Values.{Value, valuesBytes}
+use Rattle.reply_lines.specs.Decode.{replyLines}
+use Rattle.reply_values.specs.Values.{valuesOf, answerOrder}
+use Rattle.reply_values.specs.Learn.{lengthsAfter, learnCounts, givenPids}
+use Rattle.reply_values.specs.Read.{Read, Asked, asked, replyRead, readValues, readReply}
+use Rattle.reply_values.specs.declared.ReadAnswer.the-variants as read
+use Rattle.reply_values.specs.declared.ReplyRead.{ReplyRead}
+use Rattle.client_session.specs.declared.FeatureSupport.{FeatureSupport}
+use Rattle.client_session.specs.declared.Under.the-variants as under
+use Rattle.client_session.specs.Session.{Client, refusing, Served, lent, withUnder, withKnown, withRepeat, withMulti}
+use Rattle.client_session.specs.Piece.{replyIn}
+use Rattle.client_session.specs.Finish.{multiAfter, taught, finishReply}
+
+-- the reply that the store holds
+pub reply-in : (c : Client) (store : List ℕ) (n : ℕ) → n ≡ min (c .got) 4096 → replyIn c store ≡ take n store
+reply-in c store n e = take-min (c .got) 4096 store ∙ ap (λ k. take k store) (sym e)
+
+-- the session with other lengths and counts
+abbrev relearned : Client → List ℕ → List ℕ → Client
+relearned c lengths counts = record {
+  known = record {
+    wanted = c .known .wanted;
+    framing = c .known .framing;
+    repeat = c .known .repeat;
+    multi = c .known .multi;
+    lengths = lengths;
+    counts = counts;
+    last = c .known .last;
+  };
+  query = c .query;
+  under = c .under;
+  got = c .got;
+}
+
+-- the query is over, and its reply has taught what it could
+pub taught-as : (c d : Client) (lengths counts : List ℕ) (given : ℕ) (m : FeatureSupport) → m ≡ multiAfter (c .query .several) (c .known .multi) given →
+    d ≡ withUnder (withKnown c (withMulti (withRepeat (c .known) (c .known .repeat)) m)) under.Nothing 0 →
+    relearned d lengths counts ≡ taught c lengths counts given
+taught-as c d lengths counts given m e w = rw (w, e)
+
+-- a reply read for the query of a session
+module _ (c : Client) (reply out : List ℕ) (short : length reply ≤ 4096) where
+  abbrev question : Asked
+  question = asked (c .known .framing) (c .query .several) (c .query .pids) (c .known .lengths) (c .known .counts)
+
+  abbrev lengths : List ℕ
+  lengths = lengthsAfter (c .query .several) (c .query .pids) (c .known .lengths) (replyLines (c .known .framing) reply)
+
+  abbrev values : List Value
+  values = valuesOf lengths (replyLines (c .known .framing) reply)
+
+  abbrev text : List ℕ
+  text = valuesBytes (answerOrder values)
+
+  whole : readReply question reply out ≡ readValues question lengths values out
+  unfolding readReply
+  whole = rw (take-all 4096 reply short)
+
+  module _ (r : ReplyRead) (left : List ℕ) (q : replyRead r left ≡ readReply question reply out) where
+    of-full : r .answer ≡ read.SmallBuffer → (left ≡ out) × (finishReply (length out) c reply ≡ refusing 6 c)
+    of-full e =
+        by-test (ltb (length out) (length text))
+        (λ t.
+        let p : replyRead r left ≡ record { answer = refused 6; lengths = c .known .lengths; counts = c .known .counts; out = out } = q ∙ whole ∙ rw t in
+        (ap (λ (x : Read). x .out) p, rw t))
+        (λ t.
+        let p : replyRead r left ≡ record { answer = result (length values ∷ length text ∷ givenPids (c .query .pids) values ∷ []); lengths = lengths; counts = learnCounts (c .known .framing) 0 (c .known .counts) values; out = sets out 0 text } = q ∙ whole ∙ rw t in
+        from-no (cc (ap (λ (x : Read). x .answer) p)))
+
+    -- the values were longer than the buffer
+    pub read-small : r .answer ≡ read.SmallBuffer →
+        _≡_ {A = Served ℕ} (record { answer = refused 6; written = 0; next = c; out = left }) (lent (finishReply (length out) c reply) out)
+    read-small e = let (same, says) = of-full e in rw (same, says)
+
+    -- the values were written
+    pub read-values : {count written given : ℕ} → r .answer ≡ read.Values count written given →
+        _≡_ {A = Served ℕ} (record { answer = result count; written = written; next = taught c (r .lengths) (r .counts) given; out = left })
+        (lent (finishReply (length out) c reply) out)
+    read-values {count} {written} {given} e =
+        by-test (ltb (length out) (length text))
+        (λ t.
+        let p : replyRead r left ≡ record { answer = refused 6; lengths = c .known .lengths; counts = c .known .counts; out = out } = q ∙ whole ∙ rw t in
+        from-no (cc (ap (λ (x : Read). x .answer) p)))
+        (λ t.
+        let p : replyRead r left ≡ record { answer = result (length values ∷ length text ∷ givenPids (c .query .pids) values ∷ []); lengths = lengths; counts = learnCounts (c .known .framing) 0 (c .known .counts) values; out = sets out 0 text } = q ∙ whole ∙ rw t in
+        let a = ap (λ (x : Read). x .answer) p in
+        let k : count ≡ length values = cc in
+        let w : written ≡ length text = cc in
+        let g : given ≡ givenPids (c .query .pids) values = cc in
+        let l : r .lengths ≡ lengths = ap (λ (x : Read). x .lengths) p in
+        let n : r .counts ≡ learnCounts (c .known .framing) 0 (c .known .counts) values = ap (λ (x : Read). x .counts) p in
+        let o : left ≡ sets out 0 text = ap (λ (x : Read). x .out) p in
+        rw t (λ i. record { answer = result (k i); written = w i; next = taught c (l i) (n i) (g i); out = o i }))

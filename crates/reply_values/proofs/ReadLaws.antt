@@ -1,0 +1,116 @@
+-- Laws of a reply read as a whole: what stands in the store, and what is answered.
+use mathlib.Core.Path.{_≡_, refl, sym, ap, subst, _∙_}
+use mathlib.Core.Bool.{Bool}
+use mathlib.Core.List.{List, [], _∷_, map}
+use Prim.Native.Nat.{ℕ, _+_, _*_, _≤_, _<_, min}
+use native.Mathlib.Omega.{arith}
+use lib.Dec.{leb}
+use lib.ListN.{length, take, length-take}
+use lib.Seq.{sets, take-all}
+use borrow.Author.Tests.{lt-ltb, le-ltb, leb-true, leb-false}
+use Rattle.wire.specs.Answer.{Answer, result, refused}
+use Rattle.wire.specs.Put.{Put}
+use Rattle.wire.proofs.Cases.{by-test}
+use Rattle.wire.proofs.PutLaws.{put-length, put-whole, put-front}
+use Rattle.line_list.specs.Lines.{Line}
+use Rattle.value.specs.Values.{Value, valuesBytes}
+use Rattle.reply_lines.specs.Lines.{textLines}
+use Rattle.reply_lines.specs.Decode.{textLine, replyLines}
+use Rattle.reply_lines.proofs.DecodeLaws.{line-ecu}
+use Rattle.reply_values.specs.Values.{valuesOf, answerOrder}
+use Rattle.reply_values.specs.Learn.{lengthsAfter, learnCounts, givenPids}
+use Rattle.reply_values.specs.Read.{Read, Asked, readValues, readLines, readReply}
+use Rattle.reply_values.specs.Steps.{valuesIn}
+use Rattle.reply_values.proofs.InLaws.{values-in}
+use Rattle.reply_values.proofs.SizeLaws.{reply-size}
+use Rattle.reply_values.proofs.WalkLaws.{KnownEcus, values-fit}
+
+-- The order of an answer: that of the reply
+
+-- its size is that of the values in any order
+order-size : (vs : List Value) → length (valuesBytes (answerOrder vs)) ≡ length (valuesBytes vs)
+unfolding answerOrder
+order-size vs = refl
+
+-- so a copy is written in it
+pub order-copy : {out values left : List ℕ} {r : ℕ} → values ≡ valuesBytes (valuesIn values) → Put out 0 values r left →
+    Put out 0 (valuesBytes (answerOrder (valuesIn values))) r left
+unfolding answerOrder
+order-copy {out} {values} {left} {r} h p = subst (λ t. Put out 0 t r left) h p
+
+-- The whole
+
+-- the first 4,096 bytes
+cut-same : (reply : List ℕ) {end : ℕ} → end ≡ min (length reply) 4096 → take end reply ≡ take 4096 reply
+cut-same reply {end} h =
+    by-test (leb (length reply) 4096)
+    (λ t. let k = leb-true (length reply) 4096 t in take-all end reply (omega arith) ∙ sym (take-all 4096 reply k))
+    (λ t. let k = leb-false (length reply) 4096 t in let e : end ≡ 4096 = omega arith in ap (λ n. take n reply) e)
+
+pub cut-short : (reply : List ℕ) {end : ℕ} → end ≡ min (length reply) 4096 → length (take end reply) ≤ 4096
+cut-short reply {end} h = omega (arith, length-take end reply)
+
+-- every ECU+1 of a reply is at most 4,096
+pub reply-known : (framing : Bool) (reply : List ℕ) → KnownEcus (replyLines framing reply)
+unfolding replyLines
+reply-known framing reply = known (textLines reply) where
+  known : (ss : List (List ℕ)) → KnownEcus (map (textLine framing) ss)
+  known [] = tt
+  known (s ∷ ss) = (line-ecu framing s, known ss)
+
+-- the values of a text of at most 4,096 bytes, written into a store of 12,291
+module _ (framing : Bool) (text lengths : List ℕ) (short : length text ≤ 4096) {store left : List ℕ} (room : length store ≡ 12291) {size : ℕ}
+    (p : Put store 0 (valuesBytes (valuesOf lengths (replyLines framing text))) size left) where
+  fits : 0 + length (valuesBytes (valuesOf lengths (replyLines framing text))) ≤ length store
+  fits = omega (arith, reply-size lengths framing text short)
+
+  stored-size : size ≡ length (valuesBytes (valuesOf lengths (replyLines framing text)))
+  stored-size = let e = put-whole p fits in omega arith
+
+  pub stored-inside : size ≤ length left
+  stored-inside = omega (arith, stored-size, fits, put-length p)
+
+  stored-front : take size left ≡ valuesBytes (valuesOf lengths (replyLines framing text))
+  stored-front = put-front p ∙ take-all (length store) (valuesBytes (valuesOf lengths (replyLines framing text))) (omega (arith, fits))
+
+  stored-values : valuesIn (take size left) ≡ valuesOf lengths (replyLines framing text)
+  stored-values = ap valuesIn stored-front ∙ values-in (valuesOf lengths (replyLines framing text)) (values-fit lengths (replyLines framing text) (reply-known framing text))
+
+  pub stored-back : take size left ≡ valuesBytes (valuesIn (take size left))
+  stored-back = stored-front ∙ ap valuesBytes (sym stored-values)
+
+-- the answer to a query, by what the store holds
+module _ (q : Asked) (reply : List ℕ) {end : ℕ} (cut : end ≡ min (length reply) 4096) {after : List ℕ}
+    (learned : after ≡ lengthsAfter (q .several) (q .pids) (q .lengths) (replyLines (q .framing) (take end reply))) {store left : List ℕ} (room : length store ≡ 12291)
+    {size : ℕ} (p : Put store 0 (valuesBytes (valuesOf after (replyLines (q .framing) (take end reply)))) size left) where
+  abbrev text : List ℕ
+  text = take end reply
+
+  abbrev found : List Value
+  found = valuesIn (take size left)
+
+  same : found ≡ valuesOf after (replyLines (q .framing) text)
+  same = stored-values (q .framing) text after (cut-short reply cut) room p
+
+  found-size : size ≡ length (valuesBytes (answerOrder found))
+  found-size = stored-size (q .framing) text after (cut-short reply cut) room p ∙ ap (λ vs. length (valuesBytes vs)) (sym same) ∙ sym (order-size found)
+
+  read-found : (out : List ℕ) → readReply q reply out ≡ readValues q after found out
+  unfolding readReply
+  read-found out =
+      ap (λ t. readLines q (replyLines (q .framing) t) out) (sym (cut-same reply cut))
+      ∙ ap (λ ls. readValues q ls (valuesOf ls (replyLines (q .framing) text)) out) (sym learned)
+      ∙ ap (λ vs. readValues q after vs out) (sym same)
+
+  pub read-small : {out : List ℕ} → length out < size → record { answer = refused 6; lengths = q .lengths; counts = q .counts; out = out } ≡ readReply q reply out
+  read-small {out} h = sym (read-found out ∙ rw (lt-ltb (length out) (length (valuesBytes (answerOrder found))) (omega (arith, found-size))))
+
+  pub read-whole : {out o₁ counts : List ℕ} {count written given : ℕ} → size ≤ length out → count ≡ length found → given ≡ givenPids (q .pids) found →
+      counts ≡ learnCounts (q .framing) 0 (q .counts) found → Put out 0 (valuesBytes (answerOrder found)) written o₁ →
+      record { answer = result (count ∷ written ∷ given ∷ []); lengths = after; counts = counts; out = o₁ } ≡ readReply q reply out
+  read-whole {out} {o₁} {counts} {count} {written} {given} h c g l w =
+      let text = valuesBytes (answerOrder found) in
+      let all : written ≡ length text = let e = put-whole w (omega (arith, found-size)) in omega arith in
+      let fits = le-ltb (length out) (length text) (omega (arith, found-size)) in
+      (λ i. record { answer = result (c i ∷ all i ∷ g i ∷ []); lengths = after; counts = l i; out = w .bytes i })
+      ∙ sym (read-found out ∙ rw fits)

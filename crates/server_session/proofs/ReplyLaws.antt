@@ -1,0 +1,214 @@
+-- Laws of the answers to a handed-out command: what was written and the session that waits again are what is said.
+use mathlib.Core.Path.{_≡_, refl, sym, ap, _∙_}
+use mathlib.Core.Bool.{Bool, true, false, cond, _||_}
+use mathlib.Core.List.{List, [], _∷_, _++_}
+use Prim.Native.Nat.{ℕ, _+_, _≤_}
+use native.Mathlib.Omega.{arith}
+use lib.Dec.{ltb}
+use lib.ListN.{length, take, length-append}
+use lib.Seq.{sets}
+use borrow.Author.Tests.{le-ltb, ltb-false}
+use Rattle.wire.specs.Answer.{result, refused}
+use Rattle.wire.proofs.Cases.{by-test, from-no}
+use Rattle.group.specs.Group.{Read, got, malformed}
+use Rattle.line_list.specs.Lines.{Line, lineList}
+use Rattle.line_list.proofs.StepLaws.{left-end}
+use Rattle.wire.specs.Put.{Put}
+use Rattle.wire.specs.Text.{ascii, high}
+use Rattle.wire.proofs.PutLaws.{put-whole}
+use Rattle.client_state.specs.Settings.{settings, withLast}
+use Rattle.client_state.specs.declared.ClientState.{ClientState}
+use Rattle.at_command.specs.Dialect.{atKind, kindSettings, kindLines}
+use Rattle.at_command.specs.declared.AtKind.{AtKind}
+use Rattle.at_command.specs.declared.AtKind.the-variants.{Reset, Echo, Linefeeds, Spaces, Headers, Voltage, Protocol, ProtocolNumber, Accepted, Ati, Device, Unknown}
+use Rattle.reply.specs.Shape.{chipReply}
+use Rattle.reply.specs.Reply.{replyText}
+use Rattle.reply.specs.Answers as R
+use Rattle.reply.specs.declared.ReplyAnswer.the-variants.{Written, Malformed, SmallBuffer}
+use Rattle.reply.proofs.AnswerLaws.{written-told}
+use Rattle.reply.proofs.TextLaws.{no-lines}
+use Rattle.server_session.specs.declared.Phase.the-variants.{Reading}
+use Rattle.server_session.specs.declared.ServerAnswer.{ServerAnswer}
+use Rattle.server_session.specs.declared.ServerAnswer.the-variants as answer
+use Rattle.server_session.specs.declared.ServerSession.{ServerSession}
+use Rattle.server_session.specs.declared.ReplyStep.{ReplyStep}
+use Rattle.server_session.specs.Session.{Session, session, Said, refusing, Served, lent}
+use Rattle.server_session.specs.Replies.{isAt, answered, atAnswered, answerSays, isObd, lastAfter, repliedTo, replyRead, replySays, replyServed}
+
+-- the step that sends what was written, with some settings
+abbrev pub sentStep : ClientState → List ℕ → ℕ → ReplyStep
+sentStep state line written = record { answer = answer.Sent; written = written; session = record { state = state; line = line; len = 0; phase = Reading } }
+
+-- a text that fits is sent whole
+pub sent : (state : ClientState) (line text : List ℕ) {out left : List ℕ} {w : ℕ} → Put out 0 text w left → length text ≤ length out →
+    replyServed (sentStep state line w) left ≡ lent (answered (settings state) text) out
+sent state line text {out} {left} {w} p h =
+    let all : w ≡ length text = omega (arith, put-whole p (omega arith)) in
+    rw (all, p .bytes)
+
+-- how long a reply of one line is
+pub one-line : (linefeeds : Bool) (t : List ℕ) → length (chipReply linefeeds (t ∷ [])) ≤ length t + 5
+one-line true t = simp length-append (omega arith)
+one-line false t = simp length-append (omega arith)
+
+-- an AT answer has at most 48 bytes
+reset-short : (linefeeds : Bool) (t : List ℕ) → length (chipReply linefeeds ([] ∷ [] ∷ t ∷ [])) ≤ length t + 9
+reset-short true t = simp length-append (omega arith)
+reset-short false t = simp length-append (omega arith)
+
+pub at-short : (linefeeds : Bool) (ati device : List ℕ) (kind : AtKind) → length ati ≤ 32 → length device ≤ 32 →
+    length (chipReply linefeeds (kindLines ati device kind)) ≤ 48
+at-short lf ati device Reset h i = omega (arith, reset-short lf ati)
+at-short lf ati device (Echo on) h i = omega (arith, one-line lf (ascii "OK"))
+at-short lf ati device (Linefeeds on) h i = omega (arith, one-line lf (ascii "OK"))
+at-short lf ati device (Spaces on) h i = omega (arith, one-line lf (ascii "OK"))
+at-short lf ati device (Headers on) h i = omega (arith, one-line lf (ascii "OK"))
+at-short lf ati device Voltage h i = omega (arith, one-line lf (ascii "12.6V"))
+at-short lf ati device Protocol h i = omega (arith, one-line lf (ascii "AUTO, ISO 15765-4 (CAN 11/500)"))
+at-short lf ati device ProtocolNumber h i = omega (arith, one-line lf (ascii "A6"))
+at-short lf ati device Accepted h i = omega (arith, one-line lf (ascii "OK"))
+at-short lf ati device Ati h i = omega (arith, one-line lf ati)
+at-short lf ati device Device h i = omega (arith, one-line lf device)
+at-short lf ati device Unknown h i = omega (arith, one-line lf (ascii "?"))
+
+-- an AT command is handled and its answer written
+module _ (self : ServerSession) (ati device : List ℕ) (state : ClientState) (kind : AtKind)
+    (s : settings state ≡ kindSettings (atKind (session self .line)) (settings (self .state))) (k : kind ≡ atKind (session self .line)) where
+  pub at-sent : {out left : List ℕ} {w : ℕ} → length ati ≤ 32 → length device ≤ 32 → 48 ≤ length out →
+      Put out 0 (chipReply (settings state .linefeeds) (kindLines ati device kind)) w left →
+      replyServed (sentStep state (self .line) w) left ≡ lent (atAnswered (session self) ati device) out
+  at-sent {out} {left} {w} h i room p =
+      let fits = at-short (settings state .linefeeds) ati device kind h i in
+      sent state (self .line) (chipReply (settings state .linefeeds) (kindLines ati device kind)) p (omega arith) ∙
+      (λ t. lent (answered (s t) (chipReply ((s t) .linefeeds) (kindLines ati device (k t)))) out)
+
+-- how long a reply of one line is, exactly
+pub one-size : (linefeeds : Bool) (t : List ℕ) → length (chipReply linefeeds (t ∷ [])) ≡ length t + cond linefeeds 5 3
+one-size true t = simp length-append (omega arith)
+one-size false t = simp length-append (omega arith)
+
+-- a reply to a line list, by what `write_reply` answered
+module _ (self : ServerSession) (list : List ℕ) (out left : List ℕ) (turn : isObd (self .phase) ≡ true) where
+  abbrev lf : Bool
+  lf = self .state .«linefeeds_enabled»
+
+  abbrev sp : Bool
+  sp = self .state .«spaces_enabled»
+
+  abbrev hd : Bool
+  hd = self .state .«headers_enabled»
+
+  abbrev refusedStep : ServerAnswer → ReplyStep
+  refusedStep a = record { answer = a; written = 0; session = self }
+
+  in-turn : replySays (length out) (session self) list ≡ replyRead (length out) (session self) (lineList list)
+  unfolding replySays
+  in-turn = rw turn
+
+  five : (g : Read (List Line)) → R.lent Malformed left ≡ R.repliedWith lf sp hd g out →
+      replyServed (refusedStep answer.Malformed) left ≡ lent (replyRead (length out) (session self) g) out
+  five malformed q = let e : left ≡ out = ap (λ (x : R.Lent). x .out) q in rw e
+  five (got ls rest) q =
+      let text = replyText lf sp hd ls in
+      by-test (ltb (length out) (length text))
+      (λ t. let r : R.lent Malformed left ≡ record { answer = refused 6; out = out } = rw t at q in from-no (cc (ap (λ (x : R.Lent). x .answer) r)))
+      (λ t. let r : R.lent Malformed left ≡ record { answer = result (length text); out = sets out 0 text } = rw t at q in from-no (cc (ap (λ (x : R.Lent). x .answer) r)))
+
+  six : (g : Read (List Line)) → R.lent SmallBuffer left ≡ R.repliedWith lf sp hd g out →
+      replyServed (refusedStep answer.SmallBuffer) left ≡ lent (replyRead (length out) (session self) g) out
+  six malformed q = from-no (cc (ap (λ (x : R.Lent). x .answer) q))
+  six (got ls rest) q =
+      let text = replyText lf sp hd ls in
+      by-test (ltb (length out) (length text))
+      (λ t.
+      let r : R.lent SmallBuffer left ≡ record { answer = refused 6; out = out } = rw t at q in
+      let e : left ≡ out = ap (λ (x : R.Lent). x .out) r in
+      rw (t, e))
+      (λ t. let r : R.lent SmallBuffer left ≡ record { answer = result (length text); out = sets out 0 text } = rw t at q in from-no (cc (ap (λ (x : R.Lent). x .answer) r)))
+
+  pub reply-malformed : R.lent Malformed left ≡ R.replied lf sp hd list out → replyServed (refusedStep answer.Malformed) left ≡ lent (replySays (length out) (session self) list) out
+  unfolding R.replied
+  reply-malformed q = five (lineList list) q ∙ ap (λ d. lent d out) (sym in-turn)
+
+  pub reply-small : R.lent SmallBuffer left ≡ R.replied lf sp hd list out → replyServed (refusedStep answer.SmallBuffer) left ≡ lent (replySays (length out) (session self) list) out
+  unfolding R.replied
+  reply-small q = six (lineList list) q ∙ ap (λ d. lent d out) (sym in-turn)
+
+  module _ (n : ℕ) (q : R.lent (Written n) left ≡ R.replied lf sp hd list out) (state : ClientState) where
+    -- with the settings that the lines leave
+    written : ((ls : List Line) (rest : List ℕ) → lineList list ≡ got ls rest → settings state ≡ lastAfter ls (session self)) →
+        replyServed (sentStep state (self .line) n) left ≡ lent (replySays (length out) (session self) list) out
+    written k =
+        let (ls, rest, g, fits, p) = written-told lf sp hd list out q in
+        let text = replyText lf sp hd ls in
+        let e : replyRead (length out) (session self) (lineList list) ≡ repliedTo (session self) ls = rw (g, le-ltb (length out) (length text) fits) in
+        sent state (self .line) text p fits ∙
+        (λ t. lent (answered ((k ls rest g) t) text) out) ∙
+        ap (λ d. lent d out) (sym (in-turn ∙ e))
+
+    pub reply-none : length list ≡ 0 → settings state ≡ settings (self .state) → replyServed (sentStep state (self .line) n) left ≡ lent (replySays (length out) (session self) list) out
+    unfolding lineList
+    reply-none h e =
+        written (λ ls rest g.
+        let g₂ = left-end 64 list 0 (omega arith) in
+        let none : ls ≡ [] = cc in
+        rw none e)
+
+    pub reply-some : (length list ≡ 0 → ⊥) → settings state ≡ withLast (settings (self .state)) (session self .line) →
+        replyServed (sentStep state (self .line) n) left ≡ lent (replySays (length out) (session self) list) out
+    unfolding lineList
+    reply-some h e = written (λ ls rest g. e ∙ some-last ls (λ z. h (no-lines 64 list rest (g ∙ rw z))))
+      where
+        some-last : (ls : List Line) → (ls ≡ [] → ⊥) → withLast (settings (self .state)) (session self .line) ≡ lastAfter ls (session self)
+        some-last [] z = absurd (z refl)
+        some-last (l ∷ ls) z = refl
+
+-- What the contracts give a caller: the bytes to send stand inside the lent buffer.
+record Short (room : ℕ) (d : Said (Unit {0})) : Type 0 where
+  fits : length (d .text) ≤ room
+
+short-number : {room : ℕ} (n : ℕ) (s : Session) → Short room (refusing n s)
+short-number n s = record { fits = omega arith }
+
+short-any : {room : ℕ} (b : Bool) {x y : Said (Unit {0})} → (b ≡ true → Short room x) → (b ≡ false → Short room y) → Short room (cond b x y)
+short-any true p q = p refl
+short-any false p q = q refl
+
+within : {d : Said (Unit {0})} (out left : List ℕ) (r : ReplyStep) → Short (length out) d → replyServed r left ≡ lent d out → r .written ≤ length out
+within {d} out left r h e =
+    let w : r .written ≡ length (d .text) = ap (λ (x : Served (Unit {0})). x .written) e in
+    omega (arith, h .fits)
+
+or-false : (a b : Bool) → (a || b) ≡ false → (a ≡ false) × (b ≡ false)
+or-false true b e = from-no cc
+or-false false b e = (refl, e)
+
+answer-short : (room : ℕ) (s : Session) (ati device : List ℕ) → Short room (answerSays room s ati device)
+unfolding answerSays
+answer-short room s ati device =
+    short-any (isAt (s .phase))
+    (λ _. short-any (ltb 32 (length ati) || ltb 32 (length device)) (λ _. short-number 3 s)
+    (λ t. short-any (high ati || high device) (λ _. short-number 4 s)
+    (λ _. short-any (ltb room 48) (λ _. short-number 6 s)
+    (λ f.
+    let k = or-false (ltb 32 (length ati)) (ltb 32 (length device)) t in
+    let kind = atKind (s .line) in
+    let h = at-short (kindSettings kind (s .state) .linefeeds) ati device kind (ltb-false 32 (length ati) (k .0)) (ltb-false 32 (length device) (k .1)) in
+    let free = ltb-false room 48 f in
+    record { fits = omega arith }))))
+    (λ _. short-number 1 s)
+
+pub answer-written : (s : Session) (ati device out left : List ℕ) (r : ReplyStep) → replyServed r left ≡ lent (answerSays (length out) s ati device) out → r .written ≤ length out
+answer-written s ati device out left r e = within out left r (answer-short (length out) s ati device) e
+
+read-short : (room : ℕ) (s : Session) (g : Read (List Line)) → Short room (replyRead room s g)
+read-short room s malformed = short-number 5 s
+read-short room s (got ls rest) =
+    short-any (ltb room (length (repliedTo s ls .text))) (λ _. short-number 6 s) (λ f. record { fits = ltb-false room (length (repliedTo s ls .text)) f })
+
+reply-short : (room : ℕ) (s : Session) (list : List ℕ) → Short room (replySays room s list)
+unfolding replySays
+reply-short room s list = short-any (isObd (s .phase)) (λ _. read-short room s (lineList list)) (λ _. short-number 1 s)
+
+pub reply-written : (s : Session) (list out left : List ℕ) (r : ReplyStep) → replyServed r left ≡ lent (replySays (length out) s list) out → r .written ≤ length out
+reply-written s list out left r e = within out left r (reply-short (length out) s list) e
