@@ -1,17 +1,60 @@
--- What a start says when nothing is under way and the out buffer has room.
-use mathlib.Core.Path.{_≡_, refl}
+-- What a start says.
+use mathlib.Core.Path.{_≡_, refl, ap}
 use mathlib.Core.Bool.{Bool, true, false, cond}
 use mathlib.Core.List.{List, [], _∷_, _++_}
-use Prim.Native.Nat.{ℕ, _≤_}
-use lib.Dec.{eqb, ltb}
-use lib.ListN.{length}
-use borrow.Author.Tests.{le-ltb}
+use Prim.Native.Nat.{ℕ, zero, suc, _+_, _≤_, _<_}
+use native.Mathlib.Omega.{arith}
+use lib.Dec.{eqb}
+use lib.ListN.{length, length-append}
+use borrow.Author.Tests.{eq-eqb, ne-eqb, lt-ltb, le-ltb}
+use Rattle.wire.proofs.Cases.{by-test}
 use Rattle.wire.specs.Text.{ascii, high}
 use Rattle.client_command.specs.Commands.{withCR, framingEffect}
 use Rattle.client_session.specs.declared.Under.the-variants as under
-use Rattle.client_session.specs.Session.{Client, Said, saying, withUnder, withKnown, withLast}
-use Rattle.client_session.specs.Start.{isNothing, initSays, commandSays}
+use Rattle.client_session.specs.Session.{Query, Client, Said, saying, refusing, learned, withUnder, withKnown, withLast}
+use Rattle.client_session.specs.Start.{isNothing, startNumber, repeats, newQuery, asking, queryStarted, pidsNumber, initSays, commandSays, queryPidSays, queryPidsSays}
 
+-- the number of a start: 1, its own, 6, and none
+module _ (c : Client) (own room : ℕ) where
+  pub start-early : isNothing (c .under) ≡ false → startNumber c own room ≡ 1
+  start-early e = rw e
+
+  module _ (free : isNothing (c .under) ≡ true) where
+    pub start-own : eqb own 0 ≡ false → startNumber c own room ≡ own
+    start-own e = rw (free, e)
+
+    pub start-small : own ≡ 0 → room < 80 → startNumber c own room ≡ 6
+    start-small e h = rw (free, eq-eqb own 0 e, lt-ltb room 80 h)
+
+    pub start-free : own ≡ 0 → 80 ≤ room → startNumber c own room ≡ 0
+    start-free e h = rw (free, eq-eqb own 0 e, le-ltb room 80 h)
+
+-- a query by its number, and by whether it repeats the last one
+pub query-refused : (c : Client) (q : Query) (m n : ℕ) → m ≡ n → eqb n 0 ≡ false → queryStarted m c q ≡ refusing n c
+query-refused c q m n e z = by-test (repeats (c .known) (q .text)) (λ f. rw (f, e, z)) (λ f. rw (f, e, z))
+
+pub query-repeated : (c : Client) (q : Query) → repeats (c .known) (q .text) ≡ true → queryStarted 0 c q ≡ saying tt (asking c q under.Repeat) (13 ∷ [])
+query-repeated c q e = rw e
+
+pub query-in-full : (c : Client) (q : Query) → repeats (c .known) (q .text) ≡ false → queryStarted 0 c q ≡ saying tt (asking c q under.Query) (q .text ++ (13 ∷ []))
+query-in-full c q e = rw e
+
+-- the bytes of a query are few
+pub query-text-short : (c : Client) (q : Query) → length (queryStarted 0 c q .text) ≤ length (q .text) + 1
+query-text-short c q =
+    by-test (repeats (c .known) (q .text)) (λ e. rw e (omega arith)) (λ e. rw e (omega (arith, length-append (q .text) (13 ∷ []))))
+
+-- the number of PIDs
+pub pids-none : (pids : List ℕ) → length pids ≡ 0 → pidsNumber pids ≡ 2
+pids-none pids e = rw (eq-eqb (length pids) 0 e)
+
+pub pids-many : (pids : List ℕ) → 6 < length pids → pidsNumber pids ≡ 2
+pids-many pids h = rw (ne-eqb (length pids) 0 (λ e. omega arith), lt-ltb 6 (length pids) h)
+
+pub pids-few : (pids : List ℕ) → (length pids ≡ 0 → ⊥) → length pids ≤ 6 → pidsNumber pids ≡ 0
+pids-few pids ne h = rw (ne-eqb (length pids) 0 ne, le-ltb 6 (length pids) h)
+
+-- nothing is under way, and there is room
 module _ (room : ℕ) (c : Client) (free : isNothing (c .under) ≡ true) (fits : 80 ≤ room) where
   pub init-starts : initSays room c ≡ saying tt (withUnder c under.Reset 0) (ascii "ATZ\r")
   unfolding initSays
@@ -22,3 +65,17 @@ module _ (room : ℕ) (c : Client) (free : isNothing (c .under) ≡ true) (fits 
       commandSays room c command ≡ saying tt (withUnder (withKnown c (withLast (c .known) [])) (under.Raw (framingEffect command)) 0) (withCR command)
   unfolding commandSays
   command-starts command short low = simp (free, le-ltb 64 (length command) short, low, le-ltb room 80 fits)
+
+  pub pid-starts : (pid count : ℕ) → queryPidSays room c pid count ≡ queryStarted 0 c (newQuery (pid ∷ []) count false)
+  unfolding queryPidSays
+  pid-starts pid count = ap (λ n. queryStarted n c (newQuery (pid ∷ []) count false)) (start-free c 0 room free refl fits)
+
+  -- a query of one to six PIDs
+  pub pids-starts : (pids : List ℕ) (count : ℕ) → (length pids ≡ 0 → ⊥) → length pids ≤ 6 → queryPidsSays room c pids count ≡ queryStarted 0 c (newQuery pids count true)
+  unfolding queryPidsSays
+  pids-starts pids count some few = ap (λ n. queryStarted n c (newQuery pids count true)) (start-free c (pidsNumber pids) room free (pids-few pids some few) fits)
+
+-- a PID's count that is learned
+pub learned-some : (n : ℕ) → (n ≡ 0 → ⊥) → learned n ≡ suc n
+learned-some zero ne = absurd (ne refl)
+learned-some (suc n) ne = refl

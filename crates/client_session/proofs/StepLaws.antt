@@ -3,18 +3,21 @@ use mathlib.Core.Path.{_≡_, refl, sym, ap, _∙_, subst}
 use mathlib.Core.List.{List, []}
 use Prim.Native.Nat.{ℕ, _≤_, min}
 use native.Mathlib.Omega.{arith}
-use lib.Dec.{leb}
 use lib.ListN.{length, take}
 use lib.Seq.{take-all}
-use borrow.Author.Tests.{leb-true, leb-false}
-use Rattle.wire.proofs.Cases.{by-test}
+use Rattle.wire.proofs.ListLaws.{take-min}
 use Rattle.wire.specs.Answer.{refused}
-use Rattle.wire.proofs.PutLaws.{put-none}
+use Rattle.wire.specs.Put.{Put}
+use Rattle.wire.proofs.PutLaws.{put-none, put-front}
+use Rattle.client_session.specs.declared.ClientSession.{ClientSession}
+use Rattle.client_session.specs.declared.StartAnswer.{StartAnswer}
+use Rattle.client_session.specs.declared.StartStep.{StartStep}
 use Rattle.client_session.specs.declared.PieceAnswer.{PieceAnswer}
 use Rattle.client_session.specs.declared.PieceStep.{PieceStep}
-use Rattle.client_session.specs.Session.{Client, Said, Served, lent}
+use Rattle.client_session.specs.Session.{Client, client, Said, refusing, Served, lent}
+use Rattle.client_session.specs.Start.{startAnswer, startServed}
 use Rattle.client_session.specs.Piece.{Progress, stored, pieceAnswer, pieceServed, pieceReceived, receiving}
-use Rattle.client_session.specs.Steps.{Does, Ends}
+use Rattle.client_session.specs.Steps.{Does, Ends, unstarted}
 
 -- a call that does what is said, with room for its text, is what the host is to see
 pub does-lent : {A : Type 0} {d : Said A} {out : List ℕ} {s : Served A} → Does d out s → length (d .text) ≤ length out → s ≡ lent d out
@@ -32,11 +35,8 @@ pub does-end : {c : Client} {a : PieceAnswer} {r : PieceStep} {n : ℕ} {out : L
 does-end {out} p e = record { answer = ap pieceAnswer (p .answer) ∙ e; next = p .next; text = rw (p .written) (put-none out 0) }
 
 -- the part of an array that counts, whatever its count holds
-pub take-min : (n k : ℕ) (l : List ℕ) → length l ≡ k → take (min n k) l ≡ take n l
-take-min n k l h =
-    by-test (leb n k)
-    (λ e. let le = leb-true n k e in let same : min n k ≡ n = omega arith in ap (λ m. take m l) same)
-    (λ e. let gt = leb-false n k e in take-all (min n k) l (omega arith) ∙ sym (take-all n l (omega arith)))
+pub take-within : (n k : ℕ) (l : List ℕ) → length l ≡ k → take (min n k) l ≡ take n l
+take-within n k l h = sym (take-min n k l) ∙ ap (take n) (take-all k l (omega arith))
 
 -- a piece that does what is said and leaves the store so is what the host is to see
 pub does-received : (c : Client) (piece store : List ℕ) (r : PieceStep) {d e : Said Progress} {out store₁ out₁ : List ℕ} → d ≡ e → Does e out (pieceServed r out₁) →
@@ -44,3 +44,13 @@ pub does-received : (c : Client) (piece store : List ℕ) (r : PieceStep) {d e :
 does-received c piece store r {out} q p h k =
     let served = does-lent p h in
     (λ i. record { served = served i; store = k i }) ∙ ap (λ (d : Said Progress). receiving c d piece store out) (sym q)
+
+-- a text that was put into an array stands at its front
+pub put-kept : {out left t : List ℕ} {r : ℕ} → Put out 0 t r left → length t ≤ length out → take r left ≡ t
+put-kept {out} {t} p h = put-front p ∙ take-all (length out) t h
+
+-- a start that changes nothing is refused
+pub unstarted-lent : {s : ClientSession} {a : StartAnswer} {r : StartStep} {n : ℕ} {out : List ℕ} → r ≡ unstarted s a → startAnswer a ≡ refused n →
+    startServed r out ≡ lent (refusing n (client s)) out
+unstarted-lent {s} {out} q e =
+    ap (λ (r : StartStep). startServed r out) q ∙ (λ i. record { answer = e i; written = 0; next = client s; out = out })

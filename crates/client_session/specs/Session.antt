@@ -1,8 +1,8 @@
 -- A client session as document 01 has it, and what a call on it says.
 use mathlib.Core.Bool.{Bool, true, false, cond}
 use mathlib.Core.List.{List, []}
-use Prim.Native.Nat.{ℕ}
-use lib.ListN.{length, take, replicate}
+use Prim.Native.Nat.{ℕ, zero, suc}
+use lib.ListN.{length, take, getD, replicate}
 use lib.Seq.{sets}
 use Rattle.wire.specs.Answer.{Answer, result, refused}
 use Rattle.pid.specs.Lengths.{mode01Lengths}
@@ -53,6 +53,14 @@ client s = record {
   got = s .got;
 }
 
+-- a PID's count as a query has it, count+1, and 0 where it is not learned
+abbrev pub learned : ℕ → ℕ
+learned zero = 0
+learned (suc n) = suc (suc n)
+
+abbrev pub countIn : List ℕ → ℕ → ℕ
+countIn counts pid = learned (getD counts pid 0)
+
 -- a new session: framing as asked for is off until it is set; repeat is untested, or off for good
 abbrev pub freshClient : Bool → Bool → Client
 freshClient framing repeat = record {
@@ -98,6 +106,9 @@ lent d out = record { answer = d .answer; written = length (d .text); next = d .
 
 abbrev pub withUnder : Client → Under → ℕ → Client
 withUnder c u n = record { known = c .known; query = c .query; under = u; got = n }
+
+abbrev pub withQuery : Client → Query → Client
+withQuery c q = record { known = c .known; query = q; under = c .under; got = c .got }
 
 abbrev pub withKnown : Client → Known → Client
 withKnown c k = record { known = k; query = c .query; under = c .under; got = c .got }

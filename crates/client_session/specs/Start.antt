@@ -17,7 +17,7 @@ use Rattle.client_session.specs.declared.Under.the-variants as under
 use Rattle.client_session.specs.declared.StartAnswer.{StartAnswer}
 use Rattle.client_session.specs.declared.StartAnswer.the-variants as answer
 use Rattle.client_session.specs.declared.StartStep.{StartStep}
-use Rattle.client_session.specs.Session.{Query, Known, Client, client, Said, saying, refusing, Served, withUnder, withKnown, withLast}
+use Rattle.client_session.specs.Session.{Query, Known, Client, client, Said, saying, refusing, Served, withUnder, withQuery, withKnown, withLast}
 
 -- "At the client a start needs nothing under way"
 abbrev pub isNothing : Under → Bool
@@ -56,7 +56,7 @@ abbrev pub newQuery : List ℕ → ℕ → Bool → Query
 newQuery pids count several = record { text = queryText pids count; pids = pids; several = several }
 
 abbrev pub asking : Client → Query → Under → Client
-asking c q u = record { known = c .known; query = q; under = u; got = 0 }
+asking c q u = withUnder (withQuery c q) u 0
 
 abbrev pub mayRepeat : FeatureSupport → Bool
 mayRepeat support.Unknown = true

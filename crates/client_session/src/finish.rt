@@ -27,15 +27,6 @@ fn is_complete(under: Under) -> bool
     }
 }
 
-fn at_most(n: usize, most: usize) -> usize
-    ensures { λ r. ⌜ r ≡ min n most ⌝ }
-{
-    if n < most {
-        return n;
-    }
-    most
-}
-
 // Multi-PID support after a reply that gave so many of the queried PIDs.
 fn multi_after(several: bool, multi_pid: FeatureSupport, given: usize) -> FeatureSupport
     ensures { λ r. ⌜ r ≡ multiAfter several «multi_pid» given ⌝ }
@@ -54,7 +45,7 @@ impl ClientSession {
     fn pids_size(self) -> usize
         ensures { λ r. ⌜ r ≡ length (client self .query .pids) ⌝ }
     {
-        at_most(self.pids_len, 6)
+        crate::at_most(self.pids_len, 6)
     }
 
     // The session when its query is over.
@@ -128,7 +119,7 @@ impl ClientSession {
         if store.len() < 4096 {
             return self.unfinished(FinishAnswer::SmallBuffer);
         }
-        let size = at_most(self.got, 4096);
+        let size = crate::at_most(self.got, 4096);
         if wire::has_high(&store[..size]) {
             return FinishStep {
                 answer: FinishAnswer::NotAscii,

@@ -2,6 +2,8 @@
 mod finish;
 
 use client_command::FramingEffect;
+use pid::DataLength;
+use query::EcuCount;
 ghost use mathlib.Core.Path.{_≡_};
 ghost use mathlib.Core.Bool.{true, false, cond};
 ghost use mathlib.Core.List.{[], _∷_, _++_};
@@ -9,8 +11,10 @@ ghost use Prim.Native.Nat.{_≤_, min};
 ghost use lib.ListN.{length, take};
 ghost use Rattle.wire.specs.Put.{Put};
 ghost use Rattle.wire.specs.Text.{high};
-ghost use Rattle.client_session.specs.Session.{client, freshClient, lent, withUnder, withKnown, withLast, withFraming, withRepeat, withMulti};
-ghost use Rattle.client_session.specs.Start.{isNothing, mayRepeat, initSays, commandSays, startServed};
+ghost use Rattle.pid.specs.Lengths.{dataLength, lengthIn};
+ghost use Rattle.query.specs.Query.{countOf};
+ghost use Rattle.client_session.specs.Session.{client, freshClient, countIn, lent, withUnder, withQuery, withKnown, withLast, withFraming, withRepeat, withMulti};
+ghost use Rattle.client_session.specs.Start.{isNothing, mayRepeat, repeats, newQuery, queryStarted, initSays, commandSays, queryPidSays, queryPidsSays, startServed};
 ghost use Rattle.client_session.specs.Piece.{decided, isSeveral, failedClient, sendSetup, setupDone, afterEffect, repeatDone, completed, progressed, replyTakes, appended, isAwaited, pieceLent, failureSays, isWrite, pieceAnswer, pieceServed, pieceReceived};
 ghost use Rattle.client_session.specs.Steps.{Does, Ends, Joining, Receives, isReset, pieceLimit, unstarted};
 
@@ -249,6 +253,15 @@ fn after_effect(effect: FramingEffect, framing: bool) -> bool
     }
 }
 
+fn at_most(n: usize, most: usize) -> usize
+    ensures { λ r. ⌜ r ≡ min n most ⌝ }
+{
+    if n < most {
+        return n;
+    }
+    most
+}
+
 // Whether a byte of 80 hex or more stands in the joined reply: the first got bytes of the store, then the piece.
 fn joined_high(store: &[u8], got: usize, piece: &[u8]) -> bool
     requires { ⌜ got ≤ length (now store) ⌝ }
@@ -282,6 +295,47 @@ impl ClientSession {
             under: Under::Nothing,
             got: 0,
         }
+    }
+
+    // Whether CAN headers are on.
+    pub fn framing(self) -> bool
+        ensures { λ r. ⌜ r ≡ client self .known .framing ⌝ }
+    {
+        self.framing
+    }
+
+    // Whether a bare CR repeats a query.
+    pub fn repeat(self) -> FeatureSupport
+        ensures { λ r. ⌜ r ≡ client self .known .repeat ⌝ }
+    {
+        self.repeat
+    }
+
+    // Whether queries of several PIDs are answered.
+    pub fn multi_pid(self) -> FeatureSupport
+        ensures { λ r. ⌜ r ≡ client self .known .multi ⌝ }
+    {
+        self.multi_pid
+    }
+
+    // How many ECUs answered a PID, once that is learned.
+    pub fn ecu_count(self, pid: u8) -> EcuCount
+        ensures { λ r. ⌜ countOf r ≡ countIn (client self .known .counts) pid ⌝ }
+    {
+        let counts = self.ecu_counts;
+        let count = counts[pid as usize];
+        if count == 0 {
+            return EcuCount::Any;
+        }
+        EcuCount::Given(count)
+    }
+
+    // How many data bytes follow a PID in a reply: from the table, or learned.
+    pub fn data_length(self, pid: u8) -> DataLength
+        ensures { λ r. ⌜ dataLength r ≡ lengthIn (client self .known .lengths) pid ⌝ }
+    {
+        let lengths = self.pid_lengths;
+        pid::data_length(&lengths, pid)
     }
 
     // The session with another state of what is under way, and other support.
@@ -407,25 +461,101 @@ impl ClientSession {
         }
     }
 
-    // How many bytes the text of the query under way has, whatever query_len holds.
-    fn query_size(self) -> usize
-        ensures { λ r. ⌜ r ≡ min (self .«query_len») 18 ⌝ }
-    {
-        let n = self.query_len;
-        if n < 18 {
-            return n;
-        }
-        18
-    }
-
     // The query under way in full.
     fn put_query(self, out: &mut [u8]) -> usize
         ensures { λ r. ⌜ Put (now (out .entry)) 0 (client self .query .text ++ (13 ∷ [])) r (now (out .exit)) ⌝ }
     {
         let query = self.query;
-        let size = self.query_size();
+        let size = at_most(self.query_len, 18);
         let at = wire::put(out, 0, &query[..size]);
         wire::put_byte(out, at, b'\r')
+    }
+
+    // The session with a query of at most six PIDs, to be sent.
+    fn with_query(mut self, pids: &[u8], count: EcuCount, several: bool) -> ClientSession
+        requires { ⌜ length (now pids) ≤ 6 ⌝ }
+        ensures { λ r. ⌜ client r ≡ withQuery (client self) (newQuery (now (pids .entry)) (countOf count) several) ⌝ }
+    {
+        let mut text = [0u8; 18];
+        self.query_len = query::put_query(&mut text, 0, pids, count);
+        self.query = text;
+        let mut own = [0u8; 6];
+        self.pids_len = wire::put(&mut own, 0, pids);
+        self.pids = own;
+        self.several = several;
+        self
+    }
+
+    // Whether the query equals the last one, which a bare CR may repeat.
+    fn repeats(self) -> bool
+        ensures { λ r. ⌜ r ≡ repeats (client self .known) (client self .query .text) ⌝ }
+    {
+        let repeat = self.repeat;
+        if !may_repeat(repeat) {
+            return false;
+        }
+        let last = self.last;
+        let query = self.query;
+        let size = at_most(self.last_len, 18);
+        let query_size = at_most(self.query_len, 18);
+        wire::same(&last[..size], &query[..query_size])
+    }
+
+    // A query goes out, in full or as a bare CR.
+    fn ask(self, pids: &[u8], count: EcuCount, several: bool, out: &mut [u8]) -> StartStep
+        requires { ⌜ length (now pids) ≤ 6 ⌝ }
+        ensures { λ r. ⌜ Does (queryStarted 0 (client self) (newQuery (now (pids .entry)) (countOf count) several)) (now (out .entry)) (startServed r (now (out .exit))) ⌝ }
+    {
+        let next = self.with_query(pids, count, several);
+        if next.repeats() {
+            let written = wire::put_byte(out, 0, b'\r');
+            return StartStep {
+                answer: StartAnswer::Sent,
+                written: written,
+                session: next.moved(Under::Repeat, 0),
+            };
+        }
+        let written = next.put_query(out);
+        StartStep {
+            answer: StartAnswer::Sent,
+            written: written,
+            session: next.moved(Under::Query, 0),
+        }
+    }
+
+    // Starts a query of one PID, with the number of ECUs that it waits for.
+    pub fn query_pid(self, pid: u8, count: EcuCount, out: &mut [u8]) -> StartStep
+        ensures { λ r. ⌜ startServed r (now (out .exit)) ≡ lent (queryPidSays (length (now (out .entry))) (client self) pid (countOf count)) (now (out .entry)) ⌝ }
+    {
+        let under = self.under;
+        if !is_nothing(under) {
+            return self.unstarted(StartAnswer::OutOfTurn);
+        }
+        if out.len() < 80 {
+            return self.unstarted(StartAnswer::SmallBuffer);
+        }
+        let pids = [pid];
+        self.ask(&pids, count, false, out)
+    }
+
+    // Starts a query of one to six PIDs. The first such query decides multi-PID support.
+    pub fn query_pids(self, pids: &[u8], count: EcuCount, out: &mut [u8]) -> StartStep
+        ensures { λ r. ⌜ startServed r (now (out .exit)) ≡ lent (queryPidsSays (length (now (out .entry))) (client self) (now (pids .entry)) (countOf count)) (now (out .entry)) ⌝ }
+    {
+        let under = self.under;
+        if !is_nothing(under) {
+            return self.unstarted(StartAnswer::OutOfTurn);
+        }
+        if pids.len() == 0 {
+            return self.unstarted(StartAnswer::PidCount);
+        }
+        if 6 < pids.len() {
+            return self.unstarted(StartAnswer::PidCount);
+        }
+        if out.len() < 80 {
+            return self.unstarted(StartAnswer::SmallBuffer);
+        }
+        self.ask(pids, count, true, out)
     }
 
     // The session after 7, 8 or 9.
