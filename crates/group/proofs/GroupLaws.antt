@@ -9,7 +9,8 @@ use lib.ListN.{length, take, drop, length-append}
 use lib.Seq.{take-append-seam, drop-append-seam}
 use borrow.Author.Tests.{ltb-true, ltb-false, lt-ltb, le-ltb, leb-true, leb-false, le-leb, lt-leb, eqb-false, ne-eqb}
 use Rattle.wire.proofs.Cases.{by-test, from-no}
-use Rattle.group.specs.Group.{Bytes, Read, got, malformed, groupsWithin, groupBytes, withLow, readNumber, upTo, readGroup, readBytes, andThen}
+use Rattle.wire.proofs.All.{Bytes}
+use Rattle.group.specs.Group.{Read, got, malformed, groupsWithin, groupBytes, withLow, readNumber, upTo, readGroup, readBytes, andThen}
 
 -- Written
 

@@ -11,7 +11,7 @@ use borrow.Author.Tests.{ltb-true}
 use Rattle.wire.specs.Put.{Put}
 use Rattle.wire.proofs.PutLaws.{put-then}
 use Rattle.wire.proofs.Cases.{by-test, from-no, at-below, holds, held}
-use Rattle.hex.proofs.All.{All, all-append}
+use Rattle.wire.proofs.All.{All, all-append}
 use Rattle.hex.specs.Read.{digit, leading, shifted, digitsAfter, hexNumber, pairBytes}
 use Rattle.hex.specs.Digits.{hexDigit, hexDigits, hexByte, hexId, hexBytes}
 

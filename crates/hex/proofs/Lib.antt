@@ -1,3 +1,2 @@
-pub mod All
 pub mod ReadLaws
 pub mod DigitLaws

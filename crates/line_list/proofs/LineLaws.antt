@@ -5,8 +5,10 @@ use Prim.Native.Nat.{ℕ, zero, suc, _+_, _-_, _≤_, _<_}
 use native.Mathlib.Omega.{arith}
 use lib.ListN.{length, take, drop, length-append, length-drop, take-append-drop}
 use lib.Seq.{length-take-le, drop-drop}
+use Rattle.wire.proofs.ListLaws.{ends-more}
 use Rattle.wire.proofs.Cases.{from-no}
-use Rattle.group.specs.Group.{Bytes, Read, got, groupBytes, readGroup, readBytes, andThen}
+use Rattle.wire.proofs.All.{Bytes}
+use Rattle.group.specs.Group.{Read, got, groupBytes, readGroup, readBytes, andThen}
 use Rattle.group.proofs.GroupLaws.{groupBytes-some, group-written, group-got, only-written, read-rest, bytes-written, bytes-got, then-got, bytes-append}
 use Rattle.line_list.specs.Lines.{Line, line, Fits, AllFit, lineBytes, linesBytes, readLine, readLines, readAllLines, lineList}
 
@@ -54,12 +56,6 @@ list-back ls f h = all-back 64 ls f h
 
 -- Read, and what was written
 
--- an end of an end of a list is an end of it
-end-then : (s t u : List ℕ) → length t ≤ length s → length u ≤ length t → t ≡ drop (length s - length t) s → u ≡ drop (length t - length u) t → u ≡ drop (length s - length u) s
-end-then s t u h k p q =
-    let sum : length s - length t + (length t - length u) ≡ length s - length u = omega arith in
-    q ∙ ap (drop (length t - length u)) p ∙ drop-drop (length t - length u) (length s - length t) s ∙ ap (λ n. drop n s) sum
-
 -- A line was read from the front of s: it fits, s is what it is written as and the rest, and its data stand before the rest.
 pub record LineRead (s : List ℕ) (l : Line) (rest : List ℕ) : Type 0 where
   pub fits : Fits l
@@ -78,7 +74,7 @@ module _ (e n : ℕ) (s t u d rest : List ℕ) (p : readGroup 4096 s ≡ got e t
       let (less₂, end₂) = read-rest t n u b in
       let size : length d ≡ n = ap length taken ∙ length-take-le n u room in
       let left : length rest ≡ length u - n = ap length last ∙ length-drop n u in
-      let end₃ : u ≡ drop (length s - length u) s = end-then s t u (omega arith) (omega arith) end end₂ in
+      let end₃ : u ≡ drop (length s - length u) s = ends-more s t u (omega arith, end) (omega arith, end₂) .1 in
       let here : length s - length rest - length d ≡ length s - length u = omega arith in
       let all : n ≡ length u - length rest = omega arith in
       let last₂ : rest ≡ drop (length u - length rest) u = last ∙ ap (λ m. drop m u) all in
@@ -90,7 +86,7 @@ module _ (e n : ℕ) (s t u d rest : List ℕ) (p : readGroup 4096 s ≡ got e t
             let w₃ : u ≡ d ++ rest = sym (take-append-drop n u) ∙ rw (← taken, ← last) in
             rw (append-assoc (groupBytes e) (groupBytes (length d) ++ d) rest, append-assoc (groupBytes (length d)) d rest, size, ← w₃, ← w₂) w;
         shorter = omega arith;
-        ends = end-then s u rest (omega arith) (omega arith) end₃ last₂;
+        ends = ends-more s u rest (omega arith, end₃) (omega arith, last₂) .1;
         place = rw (here, ← end₃, size) taken;
       }
 

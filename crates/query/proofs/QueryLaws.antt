@@ -14,7 +14,7 @@ use Rattle.wire.specs.Text.{ascii, any, has}
 use Rattle.wire.proofs.PutLaws.{put-rest, put-nil}
 use Rattle.wire.proofs.Cases.{by-test, below, at-below}
 use Rattle.hex.specs.Digits.{hexDigit, hexByte, hexBytes}
-use Rattle.hex.proofs.All.{All, all-append}
+use Rattle.wire.proofs.All.{All, all-append}
 use Rattle.hex.proofs.DigitLaws.{bytes-all, bytes-length, digit-between}
 use Rattle.query.specs.Query.{decimal, countText, queryText}
 

@@ -10,7 +10,7 @@ use Rattle.wire.proofs.Cases.{by-test, from-no, below, at-below}
 use Rattle.wire.proofs.TextLaws.{any-append}
 use Rattle.client_state.specs.Settings.{lineEnding}
 use Rattle.hex.specs.Digits.{hexDigit, hexByte, hexId}
-use Rattle.hex.proofs.All.{All, all-append}
+use Rattle.wire.proofs.All.{All, all-append}
 use Rattle.hex.proofs.DigitLaws.{digit-between, digits-all}
 use Rattle.line_list.specs.Lines.{Line}
 use Rattle.reply.specs.Shape.{chipReply}

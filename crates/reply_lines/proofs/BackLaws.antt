@@ -10,7 +10,7 @@ use borrow.Author.Tests.{le-leb, lt-leb, ne-eqb}
 use Rattle.wire.specs.Text.{has, isSpace}
 use Rattle.wire.proofs.Cases.{at-below}
 use Rattle.hex.specs.Digits.{hexDigit, hexByte, hexId, hexBytes}
-use Rattle.hex.proofs.All.{All, all-append}
+use Rattle.wire.proofs.All.{All, all-append}
 use Rattle.hex.proofs.DigitLaws.{digit-between, digits-all, bytes-all, bytes-back, id-back}
 use Rattle.line_list.specs.Lines.{line}
 use Rattle.reply_lines.specs.Lines.{splitCR, before, trimEnd, trimmed, stays, textLines, unspaced}

@@ -14,7 +14,7 @@ use Rattle.wire.specs.Put.{Put}
 use Rattle.wire.proofs.PutLaws.{put-rest, put-nil, put-whole, put-front}
 use Rattle.wire.proofs.Cases.{by-test}
 use Rattle.hex.specs.Read.{hexNumber, kept, pairBytes}
-use Rattle.hex.proofs.All.{All, all-append}
+use Rattle.wire.proofs.All.{All, all-append}
 use Rattle.hex.proofs.ReadLaws.{Below, number-small}
 use Rattle.line_list.specs.Lines.{Line, line}
 use Rattle.reply_lines.specs.Lines.{unspaced}

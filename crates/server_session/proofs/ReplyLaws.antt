@@ -1,20 +1,20 @@
 -- Laws of the answers to a handed-out command: what was written and the session that waits again are what is said.
 use mathlib.Core.Path.{_≡_, refl, sym, ap, _∙_}
-use mathlib.Core.Bool.{Bool, true, false, cond}
+use mathlib.Core.Bool.{Bool, true, false, cond, _||_}
 use mathlib.Core.List.{List, [], _∷_, _++_}
 use Prim.Native.Nat.{ℕ, _+_, _≤_}
 use native.Mathlib.Omega.{arith}
 use lib.Dec.{ltb}
 use lib.ListN.{length, take, length-append}
 use lib.Seq.{sets}
-use borrow.Author.Tests.{le-ltb}
+use borrow.Author.Tests.{le-ltb, ltb-false}
 use Rattle.wire.specs.Answer.{result, refused}
 use Rattle.wire.proofs.Cases.{by-test, from-no}
 use Rattle.group.specs.Group.{Read, got, malformed}
 use Rattle.line_list.specs.Lines.{Line, lineList}
 use Rattle.line_list.proofs.StepLaws.{left-end}
 use Rattle.wire.specs.Put.{Put}
-use Rattle.wire.specs.Text.{ascii}
+use Rattle.wire.specs.Text.{ascii, high}
 use Rattle.wire.proofs.PutLaws.{put-whole}
 use Rattle.client_state.specs.Settings.{settings, withLast}
 use Rattle.client_state.specs.declared.ClientState.{ClientState}
@@ -32,8 +32,8 @@ use Rattle.server_session.specs.declared.ServerAnswer.{ServerAnswer}
 use Rattle.server_session.specs.declared.ServerAnswer.the-variants as answer
 use Rattle.server_session.specs.declared.ServerSession.{ServerSession}
 use Rattle.server_session.specs.declared.ReplyStep.{ReplyStep}
-use Rattle.server_session.specs.Session.{Session, session, lent}
-use Rattle.server_session.specs.Replies.{answered, atAnswered, isObd, lastAfter, repliedTo, replyRead, replySays, replyServed}
+use Rattle.server_session.specs.Session.{Session, session, Said, refusing, Served, lent}
+use Rattle.server_session.specs.Replies.{isAt, answered, atAnswered, answerSays, isObd, lastAfter, repliedTo, replyRead, replySays, replyServed}
 
 -- the step that sends what was written, with some settings
 abbrev pub sentStep : ClientState → List ℕ → ℕ → ReplyStep
@@ -162,3 +162,53 @@ module _ (self : ServerSession) (list : List ℕ) (out left : List ℕ) (turn : 
         some-last : (ls : List Line) → (ls ≡ [] → ⊥) → withLast (settings (self .state)) (session self .line) ≡ lastAfter ls (session self)
         some-last [] z = absurd (z refl)
         some-last (l ∷ ls) z = refl
+
+-- What the contracts give a caller: the bytes to send stand inside the lent buffer.
+record Short (room : ℕ) (d : Said (Unit {0})) : Type 0 where
+  fits : length (d .text) ≤ room
+
+short-number : {room : ℕ} (n : ℕ) (s : Session) → Short room (refusing n s)
+short-number n s = record { fits = omega arith }
+
+short-any : {room : ℕ} (b : Bool) {x y : Said (Unit {0})} → (b ≡ true → Short room x) → (b ≡ false → Short room y) → Short room (cond b x y)
+short-any true p q = p refl
+short-any false p q = q refl
+
+within : {d : Said (Unit {0})} (out left : List ℕ) (r : ReplyStep) → Short (length out) d → replyServed r left ≡ lent d out → r .written ≤ length out
+within {d} out left r h e =
+    let w : r .written ≡ length (d .text) = ap (λ (x : Served (Unit {0})). x .written) e in
+    omega (arith, h .fits)
+
+or-false : (a b : Bool) → (a || b) ≡ false → (a ≡ false) × (b ≡ false)
+or-false true b e = from-no cc
+or-false false b e = (refl, e)
+
+answer-short : (room : ℕ) (s : Session) (ati device : List ℕ) → Short room (answerSays room s ati device)
+unfolding answerSays
+answer-short room s ati device =
+    short-any (isAt (s .phase))
+    (λ _. short-any (ltb 32 (length ati) || ltb 32 (length device)) (λ _. short-number 3 s)
+    (λ t. short-any (high ati || high device) (λ _. short-number 4 s)
+    (λ _. short-any (ltb room 48) (λ _. short-number 6 s)
+    (λ f.
+    let k = or-false (ltb 32 (length ati)) (ltb 32 (length device)) t in
+    let kind = atKind (s .line) in
+    let h = at-short (kindSettings kind (s .state) .linefeeds) ati device kind (ltb-false 32 (length ati) (k .0)) (ltb-false 32 (length device) (k .1)) in
+    let free = ltb-false room 48 f in
+    record { fits = omega arith }))))
+    (λ _. short-number 1 s)
+
+pub answer-written : (s : Session) (ati device out left : List ℕ) (r : ReplyStep) → replyServed r left ≡ lent (answerSays (length out) s ati device) out → r .written ≤ length out
+answer-written s ati device out left r e = within out left r (answer-short (length out) s ati device) e
+
+read-short : (room : ℕ) (s : Session) (g : Read (List Line)) → Short room (replyRead room s g)
+read-short room s malformed = short-number 5 s
+read-short room s (got ls rest) =
+    short-any (ltb room (length (repliedTo s ls .text))) (λ _. short-number 6 s) (λ f. record { fits = ltb-false room (length (repliedTo s ls .text)) f })
+
+reply-short : (room : ℕ) (s : Session) (list : List ℕ) → Short room (replySays room s list)
+unfolding replySays
+reply-short room s list = short-any (isObd (s .phase)) (λ _. read-short room s (lineList list)) (λ _. short-number 1 s)
+
+pub reply-written : (s : Session) (list out left : List ℕ) (r : ReplyStep) → replyServed r left ≡ lent (replySays (length out) s list) out → r .written ≤ length out
+reply-written s list out left r e = within out left r (reply-short (length out) s list) e

@@ -6,7 +6,8 @@ use Prim.Native.Nat.{ℕ, zero, suc, _≤_, _<_}
 use native.Mathlib.Omega.{arith}
 use lib.ListN.{length, length-append}
 use Rattle.wire.proofs.Cases.{from-no}
-use Rattle.group.specs.Group.{Bytes, got, groupBytes, readNumber, andThen}
+use Rattle.wire.proofs.All.{Bytes}
+use Rattle.group.specs.Group.{got, groupBytes, readNumber, andThen}
 use Rattle.group.proofs.GroupLaws.{groupBytes-some, read-written, only-written, then-got}
 use Rattle.value.specs.Values.{Value, valueBytes, valuesBytes, partBytes, recordBytes, readValue, readValues, readPart, readParts, readRecord}
 use Rattle.value.specs.Same.{SameQueries, SameRecord}

@@ -10,6 +10,7 @@ use lib.ListN.{length, take, drop, getD, length-append, length-drop, drop-of-len
 use lib.Seq.{drop-cons, drop-drop, drop-append-seam, take-at, length-take-le}
 use borrow.Author.Tests.{leb-true, leb-false, lt-leb, le-leb, eq-eqb, ne-eqb}
 use Rattle.wire.specs.Answer.{result, refused}
+use Rattle.wire.proofs.ListLaws.{Ends, ends-more}
 use Rattle.wire.proofs.Cases.{by-test, from-no}
 use Rattle.group.specs.Group.{Read, got, malformed, readNumber, upTo, readGroup, readBytes, andThen}
 use Rattle.group.proofs.GroupLaws.{group-got, read-rest}
@@ -114,15 +115,6 @@ module _ {s : List ℕ} {at e n k m : ℕ} (w : Sized s at e n k m) where
         with-single ∙ rw (eq-eqb _ _ g, eq-eqb _ _ h, after, size, start)
 
 -- What a step tells its callers
-
--- the second ends the first
-abbrev Ends : List ℕ → List ℕ → Type 0
-Ends s t = (length t ≤ length s) × (t ≡ drop (length s - length t) s)
-
-ends-more : (s t u : List ℕ) → Ends s t → Ends t u → Ends s u
-ends-more s t u p q =
-    let place : length s - length t + (length t - length u) ≡ length s - length u = omega (arith, p .0, q .0) in
-    (omega (arith, p .0, q .0), q .1 ∙ ap (drop (length t - length u)) (p .1) ∙ drop-drop (length t - length u) (length s - length t) s ∙ ap (λ n. drop n s) place)
 
 -- what follows some bytes ends them
 ends-append : (s t : List ℕ) → Ends (s ++ t) t

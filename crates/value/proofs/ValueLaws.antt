@@ -8,7 +8,8 @@ use lib.ListN.{length, length-append, take-append-drop}
 use lib.Seq.{length-take-le}
 use borrow.Author.Tests.{eqb-true, eq-eqb}
 use Rattle.wire.proofs.Cases.{by-test, from-no}
-use Rattle.group.specs.Group.{Bytes, got, groupBytes, readNumber, readGroup, readBytes, andThen}
+use Rattle.wire.proofs.All.{Bytes}
+use Rattle.group.specs.Group.{got, groupBytes, readNumber, readGroup, readBytes, andThen}
 use Rattle.group.proofs.GroupLaws.{read-written, group-written, group-got, only-written, bytes-written, bytes-got, then-got, bytes-append}
 use Rattle.value.specs.Values.{Value, value, valueBytes, singleOf, readValue}
 

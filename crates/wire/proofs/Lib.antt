@@ -3,3 +3,4 @@ pub mod Cases
 pub mod Rules
 pub mod TextLaws
 pub mod ListLaws
+pub mod All
