@@ -127,7 +127,7 @@ unfolding walked
 line-from lengths e [] = tt
 line-from lengths e (m ∷ s) = by-test (eqb m 0x41) (λ t. rw t (walk-from (length s) lengths e s)) (λ t. rw t tt)
 
--- lines whose ECU+1 is at most 4,096
+-- lines whose ECU+1 is at most 4,096 give values that can be read back
 abbrev pub KnownEcus : List Line → Type 0
 KnownEcus [] = Unit {0}
 KnownEcus (l ∷ ls) = (l .ecu ≤ 4096) × KnownEcus ls
@@ -136,7 +136,6 @@ fit-append : {e : ℕ} → e ≤ 4096 → (vs ws : List Value) → FromEcu e vs 
 fit-append k [] ws f h = h
 fit-append k (v ∷ vs) ws f h = (omega (arith, f .0), fit-append k vs ws (f .1) h)
 
--- have values that can be read back
 pub values-fit : (lengths : List ℕ) (ls : List Line) → KnownEcus ls → ValuesFit (valuesOf lengths ls)
 values-fit lengths [] h = tt
 values-fit lengths (l ∷ ls) h = fit-append (h .0) (lineValues lengths (l .ecu) (l .bytes)) (valuesOf lengths ls) (line-from lengths (l .ecu) (l .bytes)) (values-fit lengths ls (h .1))
