@@ -57,6 +57,7 @@ cards =
     card 2 (lines false "NO DATA") (0 ∷ 1 ∷ 0xDA ∷ []) ∷
     card 2 (values false "NO DATA") [] ∷
     card 3 (lines true "NO DATA") (1 ∷ 0 ∷ []) ∷
+    card 3 (values true "NO DATA") [] ∷
     card 4 (values true "A12") (0x31 ∷ 0x00 ∷ 0x03 ∷ 0x41 ∷ 0x31 ∷ 0x32 ∷ []) ∷
     card 5 (values false "41 0C 1A F8 0D 20") (0x0C ∷ 0 ∷ 4 ∷ 0x41 ∷ 0x0C ∷ 0x1A ∷ 0xF8 ∷ 0x0D ∷ 0 ∷ 3 ∷ 0x41 ∷ 0x0D ∷ 0x20 ∷ []) ∷
     card 6 (lines false "+41") (0 ∷ 1 ∷ 0x04 ∷ []) ∷

@@ -45,7 +45,7 @@ impl ClientSession {
     fn pids_size(self) -> usize
         ensures { λ r. ⌜ r ≡ length (client self .query .pids) ⌝ }
     {
-        crate::at_most(self.pids_len, 6)
+        wire::at_most(self.pids_len, 6)
     }
 
     // The session when its query is over.
@@ -119,7 +119,7 @@ impl ClientSession {
         if store.len() < 4096 {
             return self.unfinished(FinishAnswer::SmallBuffer);
         }
-        let size = crate::at_most(self.got, 4096);
+        let size = wire::at_most(self.got, 4096);
         if wire::has_high(&store[..size]) {
             return FinishStep {
                 answer: FinishAnswer::NotAscii,

@@ -253,15 +253,6 @@ fn after_effect(effect: FramingEffect, framing: bool) -> bool
     }
 }
 
-fn at_most(n: usize, most: usize) -> usize
-    ensures { λ r. ⌜ r ≡ min n most ⌝ }
-{
-    if n < most {
-        return n;
-    }
-    most
-}
-
 // Whether a byte of 80 hex or more stands in the joined reply: the first got bytes of the store, then the piece.
 fn joined_high(store: &[u8], got: usize, piece: &[u8]) -> bool
     requires { ⌜ got ≤ length (now store) ⌝ }
@@ -466,7 +457,7 @@ impl ClientSession {
         ensures { λ r. ⌜ Put (now (out .entry)) 0 (client self .query .text ++ (13 ∷ [])) r (now (out .exit)) ⌝ }
     {
         let query = self.query;
-        let size = at_most(self.query_len, 18);
+        let size = wire::at_most(self.query_len, 18);
         let at = wire::put(out, 0, &query[..size]);
         wire::put_byte(out, at, b'\r')
     }
@@ -496,8 +487,8 @@ impl ClientSession {
         }
         let last = self.last;
         let query = self.query;
-        let size = at_most(self.last_len, 18);
-        let query_size = at_most(self.query_len, 18);
+        let size = wire::at_most(self.last_len, 18);
+        let query_size = wire::at_most(self.query_len, 18);
         wire::same(&last[..size], &query[..query_size])
     }
 

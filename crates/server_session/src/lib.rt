@@ -174,16 +174,6 @@ fn is_full(size: usize, byte: u8) -> bool
     true
 }
 
-// The lesser of two counts.
-fn lesser(a: usize, b: usize) -> usize
-    ensures { λ r. ⌜ r ≡ min a b ⌝ }
-{
-    if a < b {
-        return a;
-    }
-    b
-}
-
 // How much of a buffer is left from a position on.
 fn room_at(size: usize, at: usize) -> usize
     ensures { λ r. ⌜ r ≡ size - at ⌝ }
@@ -437,9 +427,9 @@ impl ServerSession {
                 return 0;
             }
             let state = self.state;
-            let most = lesser(left, 128 - self.command_size());
+            let most = wire::at_most(left, 128 - self.command_size());
             if state.echo_enabled {
-                return lesser(most, free - 8);
+                return wire::at_most(most, free - 8);
             }
             return most;
         }

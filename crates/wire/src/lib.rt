@@ -3,6 +3,7 @@
 ghost use Rattle.wire.specs.Put.{Put};
 ghost use Rattle.wire.specs.Text.{same, begins, has, high, isSpace, raised};
 ghost use mathlib.Core.List.{[], _∷_};
+ghost use Prim.Native.Nat.{min};
 ghost use mathlib.Core.Path.{_≡_};
 
 // One byte at position at.
@@ -108,4 +109,14 @@ pub fn raise(b: u8) -> u8
         return b - 32;
     }
     b
+}
+
+// The lesser of a number and the most that it may be.
+pub fn at_most(n: usize, most: usize) -> usize
+    ensures { λ r. ⌜ r ≡ min n most ⌝ }
+{
+    if n < most {
+        return n;
+    }
+    most
 }

@@ -17,20 +17,20 @@ returns c = let s = c .before .before .before .args .self in let k : length (s .
 command-size-requires : tie.Need-command-size-requires
 command-size-requires c κs = search needs
 
-sub-lesser : tie.Need-sub-lesser
-sub-lesser c = let s = c .before .before .before .before .before .args .self in let k : length (s .line) ≡ 128 = search needs in let h = length-take (s .len) (s .line) in omega (arith, c .command-size .ensures)
+sub-at_most : tie.Need-sub-at_most
+sub-at_most c = let s = c .before .before .before .before .before .args .self in let k : length (s .line) ≡ 128 = search needs in let h = length-take (s .len) (s .line) in omega (arith, c .command-size .ensures)
 
-lesser-requires : tie.Need-lesser-requires
-lesser-requires c κs = search needs
+at-most-requires : tie.Need-at-most-requires
+at-most-requires c κs = search needs
 
-lesser-requires-2 : tie.Need-lesser-requires-2
-lesser-requires-2 c κs = search needs
+at-most-requires-2 : tie.Need-at-most-requires-2
+at-most-requires-2 c κs = search needs
 
 returns-2 : tie.Need-returns-2
-returns-2 c = let s = c .before .before .before .before .before .before .before .before .args .self in let k : length (s .line) ≡ 128 = search needs in let h = length-take (s .len) (s .line) in fits-echo (session s) _ _ _ (omega (arith, c .before .before .before .command-size .ensures, c .before .before .lesser .ensures, c .lesser2 .ensures)) (omega (arith, c .before .before .before .command-size .ensures, c .before .before .lesser .ensures, c .lesser2 .ensures)) (sym (c .before .before .before .before .before .before .before .is-reading .ensures) ∙ c .before .before .before .before .before .before .if1 .taken) (c .before .before .before .before .before .if2 .left) (c .before .if3 .taken) (omega (arith, c .lesser2 .ensures, c .before .before .before .before .before .if2 .left))
+returns-2 c = let s = c .before .before .before .before .before .before .before .before .args .self in let k : length (s .line) ≡ 128 = search needs in let h = length-take (s .len) (s .line) in fits-echo (session s) _ _ _ (omega (arith, c .before .before .before .command-size .ensures, c .before .before .at-most .ensures, c .at-most2 .ensures)) (omega (arith, c .before .before .before .command-size .ensures, c .before .before .at-most .ensures, c .at-most2 .ensures)) (sym (c .before .before .before .before .before .before .before .is-reading .ensures) ∙ c .before .before .before .before .before .before .if1 .taken) (c .before .before .before .before .before .if2 .left) (c .before .if3 .taken) (omega (arith, c .at-most2 .ensures, c .before .before .before .before .before .if2 .left))
 
 returns-3 : tie.Need-returns-3
-returns-3 c = let s = c .before .before .before .before .before .before .before .args .self in let k : length (s .line) ≡ 128 = search needs in let h = length-take (s .len) (s .line) in fits-quiet (session s) _ _ _ (omega (arith, c .before .before .command-size .ensures, c .before .lesser .ensures)) (omega (arith, c .before .before .command-size .ensures, c .before .lesser .ensures)) (sym (c .before .before .before .before .before .before .is-reading .ensures) ∙ c .before .before .before .before .before .if1 .taken) (c .before .before .before .before .if2 .left) (c .if3 .left)
+returns-3 c = let s = c .before .before .before .before .before .before .before .args .self in let k : length (s .line) ≡ 128 = search needs in let h = length-take (s .len) (s .line) in fits-quiet (session s) _ _ _ (omega (arith, c .before .before .command-size .ensures, c .before .at-most .ensures)) (omega (arith, c .before .before .command-size .ensures, c .before .at-most .ensures)) (sym (c .before .before .before .before .before .before .is-reading .ensures) ∙ c .before .before .before .before .before .if1 .taken) (c .before .before .before .before .if2 .left) (c .if3 .left)
 
 returns-4 : tie.Need-returns-4
 returns-4 c = let s = c .before .before .args .self in let k : length (s .line) ≡ 128 = search needs in let h = length-take (s .len) (s .line) in fits-none (session s) _ _ (omega arith)
@@ -42,9 +42,9 @@ run-room-spec =
     is-reading-requires
     returns
     command-size-requires
-    sub-lesser
-    lesser-requires
-    lesser-requires-2
+    sub-at_most
+    at-most-requires
+    at-most-requires-2
     returns-2
     returns-3
     returns-4)
