@@ -16,38 +16,13 @@ use Rattle.reply_values.specs.Learn.{lengthsAfter, learnCounts, givenPids}
 use Rattle.reply_values.specs.Read.{Read, Asked, asked, replyRead, readValues, readReply}
 use Rattle.reply_values.specs.declared.ReadAnswer.the-variants as read
 use Rattle.reply_values.specs.declared.ReplyRead.{ReplyRead}
-use Rattle.client_session.specs.declared.FeatureSupport.{FeatureSupport}
-use Rattle.client_session.specs.declared.Under.the-variants as under
-use Rattle.client_session.specs.Session.{Client, refusing, Served, lent, withUnder, withKnown, withRepeat, withMulti}
+use Rattle.client_session.specs.Session.{Client, refusing, Served, lent}
 use Rattle.client_session.specs.Piece.{replyIn}
-use Rattle.client_session.specs.Finish.{multiAfter, taught, finishReply}
+use Rattle.client_session.specs.Finish.{taught, finishReply}
 
 -- the reply that the store holds
 pub reply-in : (c : Client) (store : List ℕ) (n : ℕ) → n ≡ min (c .got) 4096 → replyIn c store ≡ take n store
 reply-in c store n e = take-min (c .got) 4096 store ∙ ap (λ k. take k store) (sym e)
-
--- the session with other lengths and counts
-abbrev relearned : Client → List ℕ → List ℕ → Client
-relearned c lengths counts = record {
-  known = record {
-    wanted = c .known .wanted;
-    framing = c .known .framing;
-    repeat = c .known .repeat;
-    multi = c .known .multi;
-    lengths = lengths;
-    counts = counts;
-    last = c .known .last;
-  };
-  query = c .query;
-  under = c .under;
-  got = c .got;
-}
-
--- the query is over, and its reply has taught what it could
-pub taught-as : (c d : Client) (lengths counts : List ℕ) (given : ℕ) (m : FeatureSupport) → m ≡ multiAfter (c .query .several) (c .known .multi) given →
-    d ≡ withUnder (withKnown c (withMulti (withRepeat (c .known) (c .known .repeat)) m)) under.Nothing 0 →
-    relearned d lengths counts ≡ taught c lengths counts given
-taught-as c d lengths counts given m e w = rw (w, e)
 
 -- a reply read for the query of a session
 module _ (c : Client) (reply out : List ℕ) (short : length reply ≤ 4096) where

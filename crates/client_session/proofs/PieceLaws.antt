@@ -11,11 +11,12 @@ use Rattle.wire.specs.Text.{has, high}
 use Rattle.wire.proofs.Cases.{by-test, from-no}
 use Rattle.client_command.specs.Commands.{setupText}
 use Rattle.client_command.proofs.CommandLaws.{setup-length}
-use Rattle.client_session.specs.declared.FeatureSupport.the-variants as support
+use Rattle.server_state.specs.declared.FeatureSupport.the-variants as support
+use Rattle.server_state.specs.State.{decided}
 use Rattle.client_session.specs.declared.Under.{Under}
 use Rattle.client_session.specs.declared.Under.the-variants as under
 use Rattle.client_session.specs.Session.{Client, Said, saying, refusing, withUnder, withKnown, withLast, withFraming, withMulti}
-use Rattle.client_session.specs.Piece.{Progress, over, decided, isSeveral, failedClient, failing, sendSetup, setupDone, repeatDone, completed, replyIn, progressed, replyTakes, numbered, pieceNumber, pieceUnder, pieceSays, isAwaited, failureUnder, failureSays}
+use Rattle.client_session.specs.Piece.{Progress, over, isSeveral, failedClient, failing, sendSetup, setupDone, repeatDone, completed, replyIn, progressed, replyTakes, numbered, pieceNumber, pieceUnder, pieceSays, isAwaited, failureUnder, failureSays}
 use Rattle.client_session.specs.Steps.{isReset, pieceLimit}
 
 -- 7, 8 and 9 in a query of `query_pids`, and elsewhere

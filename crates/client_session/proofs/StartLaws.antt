@@ -2,7 +2,7 @@
 use mathlib.Core.Path.{_≡_, refl, ap}
 use mathlib.Core.Bool.{Bool, true, false, cond}
 use mathlib.Core.List.{List, [], _∷_, _++_}
-use Prim.Native.Nat.{ℕ, zero, suc, _+_, _≤_, _<_}
+use Prim.Native.Nat.{ℕ, _+_, _≤_, _<_}
 use native.Mathlib.Omega.{arith}
 use lib.Dec.{eqb}
 use lib.ListN.{length, length-append}
@@ -11,7 +11,7 @@ use Rattle.wire.proofs.Cases.{by-test}
 use Rattle.wire.specs.Text.{ascii, high}
 use Rattle.client_command.specs.Commands.{withCR, framingEffect}
 use Rattle.client_session.specs.declared.Under.the-variants as under
-use Rattle.client_session.specs.Session.{Query, Client, Said, saying, refusing, learned, withUnder, withKnown, withLast}
+use Rattle.client_session.specs.Session.{Query, Client, Said, saying, refusing, withUnder, withKnown, withLast}
 use Rattle.client_session.specs.Start.{isNothing, startNumber, repeats, newQuery, asking, queryStarted, pidsNumber, initSays, commandSays, queryPidSays, queryPidsSays}
 
 -- the number of a start: 1, its own, 6, and none
@@ -74,8 +74,3 @@ module _ (room : ℕ) (c : Client) (free : isNothing (c .under) ≡ true) (fits 
   pub pids-starts : (pids : List ℕ) (count : ℕ) → (length pids ≡ 0 → ⊥) → length pids ≤ 6 → queryPidsSays room c pids count ≡ queryStarted 0 c (newQuery pids count true)
   unfolding queryPidsSays
   pids-starts pids count some few = ap (λ n. queryStarted n c (newQuery pids count true)) (start-free c (pidsNumber pids) room free (pids-few pids some few) fits)
-
--- a PID's count that is learned
-pub learned-some : (n : ℕ) → (n ≡ 0 → ⊥) → learned n ≡ suc n
-learned-some zero ne = absurd (ne refl)
-learned-some (suc n) ne = refl

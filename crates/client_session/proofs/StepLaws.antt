@@ -1,11 +1,10 @@
 -- Laws of what the private steps do.
 use mathlib.Core.Path.{_≡_, refl, sym, ap, _∙_, subst}
 use mathlib.Core.List.{List, []}
-use Prim.Native.Nat.{ℕ, _≤_, min}
+use Prim.Native.Nat.{ℕ, _≤_}
 use native.Mathlib.Omega.{arith}
 use lib.ListN.{length, take}
 use lib.Seq.{take-all}
-use Rattle.wire.proofs.ListLaws.{take-min}
 use Rattle.wire.specs.Answer.{refused}
 use Rattle.wire.specs.Put.{Put}
 use Rattle.wire.proofs.PutLaws.{put-none, put-front}
@@ -33,10 +32,6 @@ does-as {A} {out} {s} q p = subst (λ (d : Said A). Does d out s) (sym q) p
 pub does-end : {c : Client} {a : PieceAnswer} {r : PieceStep} {n : ℕ} {out : List ℕ} → Ends c a r → pieceAnswer a ≡ refused n →
     Does (record { answer = refused n; next = c; text = [] }) out (pieceServed r out)
 does-end {out} p e = record { answer = ap pieceAnswer (p .answer) ∙ e; next = p .next; text = rw (p .written) (put-none out 0) }
-
--- the part of an array that counts, whatever its count holds
-pub take-within : (n k : ℕ) (l : List ℕ) → length l ≡ k → take (min n k) l ≡ take n l
-take-within n k l h = sym (take-min n k l) ∙ ap (take n) (take-all k l (omega arith))
 
 -- a piece that does what is said and leaves the store so is what the host is to see
 pub does-received : (c : Client) (piece store : List ℕ) (r : PieceStep) {d e : Said Progress} {out store₁ out₁ : List ℕ} → d ≡ e → Does e out (pieceServed r out₁) →

@@ -12,15 +12,16 @@ use Rattle.value.specs.Values.{Value, valuesBytes}
 use Rattle.reply_lines.specs.Decode.{replyLines}
 use Rattle.reply_values.specs.Values.{valuesOf, answerOrder}
 use Rattle.reply_values.specs.Learn.{lengthsAfter, learnCounts, givenPids}
-use Rattle.client_session.specs.declared.FeatureSupport.{FeatureSupport}
-use Rattle.client_session.specs.declared.FeatureSupport.the-variants as support
+use Rattle.server_state.specs.declared.FeatureSupport.{FeatureSupport}
+use Rattle.server_state.specs.declared.FeatureSupport.the-variants as support
+use Rattle.server_state.specs.State.{decided}
 use Rattle.client_session.specs.declared.Under.{Under}
 use Rattle.client_session.specs.declared.Under.the-variants as under
 use Rattle.client_session.specs.declared.FinishAnswer.{FinishAnswer}
 use Rattle.client_session.specs.declared.FinishAnswer.the-variants as answer
 use Rattle.client_session.specs.declared.FinishStep.{FinishStep}
 use Rattle.client_session.specs.Session.{Client, client, Said, saying, refusing, Served}
-use Rattle.client_session.specs.Piece.{decided, failing, replyIn}
+use Rattle.client_session.specs.Piece.{failing, replyIn}
 
 -- multi-PID support after a reply that gave so many of the queried PIDs: with two it is confirmed, else refused
 abbrev pub multiAfter : Bool → FeatureSupport → ℕ → FeatureSupport

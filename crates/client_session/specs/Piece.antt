@@ -13,8 +13,8 @@ use Rattle.wire.specs.Text.{has, high}
 use Rattle.client_command.specs.Commands.{setupText}
 use Rattle.client_command.specs.declared.FramingEffect.{FramingEffect}
 use Rattle.client_command.specs.declared.FramingEffect.the-variants as effect
-use Rattle.client_session.specs.declared.FeatureSupport.{FeatureSupport}
-use Rattle.client_session.specs.declared.FeatureSupport.the-variants as support
+use Rattle.server_state.specs.declared.FeatureSupport.the-variants as support
+use Rattle.server_state.specs.State.{decided}
 use Rattle.client_session.specs.declared.Under.{Under}
 use Rattle.client_session.specs.declared.Under.the-variants as under
 use Rattle.client_session.specs.declared.PieceAnswer.{PieceAnswer}
@@ -38,12 +38,6 @@ pub data Progress : Type 0 where
 -- the first number of an awaited piece before its bytes are looked at: 3 over the limit, 6 for room under 80 or a store under 4,096
 abbrev pub pieceNumber : ℕ → List ℕ → ℕ → ℕ → ℕ
 pieceNumber limit piece room store = cond (ltb limit (length piece)) 3 (cond (ltb room 80) 6 (cond (ltb store 4096) 6 0))
-
--- support that is untested becomes m
-abbrev pub decided : FeatureSupport → FeatureSupport → FeatureSupport
-decided support.Unknown m = m
-decided support.Yes m = support.Yes
-decided support.No m = support.No
 
 -- a query of `query_pids` is under way, where several says that the query is such a one
 abbrev pub isSeveral : Under → Bool → Bool

@@ -1,13 +1,17 @@
 -- A client session as document 01 has it, and what a call on it says.
-use mathlib.Core.Bool.{Bool, true, false, cond}
+use mathlib.Core.Bool.{Bool, false}
 use mathlib.Core.List.{List, []}
-use Prim.Native.Nat.{ℕ, zero, suc}
-use lib.ListN.{length, take, getD, replicate}
+use Prim.Native.Nat.{ℕ}
+use lib.ListN.{length, take, replicate}
 use lib.Seq.{sets}
 use Rattle.wire.specs.Answer.{Answer, result, refused}
 use Rattle.pid.specs.Lengths.{mode01Lengths}
-use Rattle.client_session.specs.declared.FeatureSupport.{FeatureSupport}
-use Rattle.client_session.specs.declared.FeatureSupport.the-variants as support
+use Rattle.query_text.specs.declared.QueryText.{QueryText}
+use Rattle.query_text.specs.Text.{text}
+use Rattle.server_state.specs.declared.FeatureSupport.{FeatureSupport}
+use Rattle.server_state.specs.declared.FeatureSupport.the-variants as support
+use Rattle.server_state.specs.declared.ServerState.{ServerState}
+use Rattle.server_state.specs.State.{supportAtFirst}
 use Rattle.client_session.specs.declared.Under.{Under}
 use Rattle.client_session.specs.declared.Under.the-variants as under
 use Rattle.client_session.specs.declared.ClientSession.{ClientSession}
@@ -36,30 +40,26 @@ pub record Client : Type 0 where
   pub under : Under
   pub got : ℕ
 
+-- what is set or learned, as a ClientSession holds it
+abbrev pub knownIn : Bool → ServerState → QueryText → Known
+knownIn wanted s last = record {
+  wanted = wanted;
+  framing = s .framing;
+  repeat = s .repeat;
+  multi = s .«multi_pid»;
+  lengths = s .«pid_lengths»;
+  counts = s .«ecu_counts»;
+  last = text last;
+}
+
 -- what a ClientSession holds, whatever stands in its fields
 abbrev pub client : ClientSession → Client
 client s = record {
-  known = record {
-    wanted = s .«want_framing»;
-    framing = s .framing;
-    repeat = s .repeat;
-    multi = s .«multi_pid»;
-    lengths = s .«pid_lengths»;
-    counts = s .«ecu_counts»;
-    last = take (s .«last_len») (s .last);
-  };
-  query = record { text = take (s .«query_len») (s .query); pids = take (s .«pids_len») (s .pids); several = s .several };
+  known = knownIn (s .«want_framing») (s .server) (s .last);
+  query = record { text = text (s .query); pids = take (s .«pids_len») (s .pids); several = s .several };
   under = s .under;
   got = s .got;
 }
-
--- a PID's count as a query has it, count+1, and 0 where it is not learned
-abbrev pub learned : ℕ → ℕ
-learned zero = 0
-learned (suc n) = suc (suc n)
-
-abbrev pub countIn : List ℕ → ℕ → ℕ
-countIn counts pid = learned (getD counts pid 0)
 
 -- a new session: framing as asked for is off until it is set; repeat is untested, or off for good
 abbrev pub freshClient : Bool → Bool → Client
@@ -67,7 +67,7 @@ freshClient framing repeat = record {
   known = record {
     wanted = framing;
     framing = false;
-    repeat = cond repeat support.Unknown support.No;
+    repeat = supportAtFirst repeat;
     multi = support.Unknown;
     lengths = mode01Lengths;
     counts = replicate 256 0;

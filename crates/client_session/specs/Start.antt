@@ -10,8 +10,7 @@ use Rattle.wire.specs.Answer.{Answer, result, refused}
 use Rattle.wire.specs.Text.{ascii, same, high}
 use Rattle.query.specs.Query.{queryText}
 use Rattle.client_command.specs.Commands.{withCR, framingEffect}
-use Rattle.client_session.specs.declared.FeatureSupport.{FeatureSupport}
-use Rattle.client_session.specs.declared.FeatureSupport.the-variants as support
+use Rattle.server_state.specs.State.{mayTry}
 use Rattle.client_session.specs.declared.Under.{Under}
 use Rattle.client_session.specs.declared.Under.the-variants as under
 use Rattle.client_session.specs.declared.StartAnswer.{StartAnswer}
@@ -58,13 +57,8 @@ newQuery pids count several = record { text = queryText pids count; pids = pids;
 abbrev pub asking : Client → Query → Under → Client
 asking c q u = withUnder (withQuery c q) u 0
 
-abbrev pub mayRepeat : FeatureSupport → Bool
-mayRepeat support.Unknown = true
-mayRepeat support.Yes = true
-mayRepeat support.No = false
-
 abbrev pub repeats : Known → List ℕ → Bool
-repeats k text = mayRepeat (k .repeat) && same (k .last) text
+repeats k text = mayTry (k .repeat) && same (k .last) text
 
 abbrev pub queryStarted : ℕ → Client → Query → Said (Unit {0})
 queryStarted number c q =

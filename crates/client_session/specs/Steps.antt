@@ -5,6 +5,8 @@ use mathlib.Core.List.{List}
 use Prim.Native.Nat.{ℕ, _≤_}
 use lib.ListN.{length}
 use Rattle.wire.specs.Put.{Put}
+use Rattle.query_text.specs.declared.QueryText.{QueryText}
+use Rattle.server_state.specs.declared.ServerState.{ServerState}
 use Rattle.client_session.specs.declared.Under.{Under}
 use Rattle.client_session.specs.declared.Under.the-variants as under
 use Rattle.client_session.specs.declared.ClientSession.{ClientSession}
@@ -12,7 +14,7 @@ use Rattle.client_session.specs.declared.StartAnswer.{StartAnswer}
 use Rattle.client_session.specs.declared.StartStep.{StartStep}
 use Rattle.client_session.specs.declared.PieceAnswer.{PieceAnswer}
 use Rattle.client_session.specs.declared.PieceStep.{PieceStep}
-use Rattle.client_session.specs.Session.{Client, client, Said, Served}
+use Rattle.client_session.specs.Session.{Query, Client, client, knownIn, Said, Served}
 use Rattle.client_session.specs.Piece.{Progress, isAwaited, appended, pieceServed}
 
 -- A call does what is said, and writes from the front of the out buffer on as far as it reaches.
@@ -50,6 +52,10 @@ isReset under.Complete = false
 
 abbrev pub pieceLimit : Under → ℕ
 pieceLimit u = cond (isReset u) 256 128
+
+-- the session with another state of what is under way, another server state and last query
+abbrev pub rebuilt : Bool → Query → Under → ℕ → ServerState → QueryText → Client
+rebuilt wanted q u n s last = record { known = knownIn wanted s last; query = q; under = u; got = n }
 
 -- nothing is sent, and the session stays
 abbrev pub unstarted : ClientSession → StartAnswer → StartStep

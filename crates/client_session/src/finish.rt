@@ -1,10 +1,10 @@
 // A query is finished: its values, and what its reply teaches.
 use crate::ClientSession;
-use crate::FeatureSupport;
 use crate::FinishAnswer;
 use crate::FinishStep;
 use crate::Under;
 use reply_values::ReadAnswer;
+use server_state::FeatureSupport;
 ghost use mathlib.Core.Path.{_≡_};
 ghost use mathlib.Core.Bool.{cond};
 ghost use Prim.Native.Nat.{_≤_, min};
@@ -33,9 +33,9 @@ fn multi_after(several: bool, multi_pid: FeatureSupport, given: usize) -> Featur
 {
     if several {
         if given < 2 {
-            return crate::decide(multi_pid, FeatureSupport::No);
+            return multi_pid.decide(FeatureSupport::No);
         }
-        return crate::decide(multi_pid, FeatureSupport::Yes);
+        return multi_pid.decide(FeatureSupport::Yes);
     }
     multi_pid
 }
@@ -52,13 +52,13 @@ impl ClientSession {
     fn taught(self, lengths: [u16; 256], counts: [u8; 256], given: usize) -> ClientSession
         ensures { λ r. ⌜ client r ≡ taught (client self) lengths counts given ⌝ }
     {
-        let repeat = self.repeat;
-        let multi_pid = self.multi_pid;
-        let multi = multi_after(self.several, multi_pid, given);
-        let mut next = self.with(Under::Nothing, 0, repeat, multi);
-        next.pid_lengths = lengths;
-        next.ecu_counts = counts;
-        next
+        let server = self.server;
+        let last = self.last;
+        let multi_pid = server.multi_pid;
+        let mut learned = server.with_multi_pid(multi_after(self.several, multi_pid, given));
+        learned.pid_lengths = lengths;
+        learned.ecu_counts = counts;
+        self.with(Under::Nothing, 0, learned, last)
     }
 
     // A finish that is refused changes nothing.
@@ -78,12 +78,13 @@ impl ClientSession {
         ensures { λ r. ⌜ finishServed r (now (out .exit)) ≡ lent (finishReply (length (now (out .entry))) (client self) (now (reply .entry))) (now (out .entry)) ⌝ }
     {
         let pids = self.pids;
-        let lengths = self.pid_lengths;
-        let counts = self.ecu_counts;
+        let server = self.server;
+        let lengths = server.pid_lengths;
+        let counts = server.ecu_counts;
         let size = self.pids_size();
         let read = reply_values::read_reply(
             reply,
-            self.framing,
+            server.framing,
             self.several,
             &pids[..size],
             lengths,

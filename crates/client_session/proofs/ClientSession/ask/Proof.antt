@@ -30,8 +30,8 @@ same-length c = search needs
 returns : tie.Need-returns
 returns c = does-as (query-repeated (client (c .before .before .before .before .before .before .before .before .before .before .args .self)) (newQuery (c .before .before .before .before .before .before .before .before .before .before .args .pids .now) (countOf (c .before .before .before .before .before .before .before .before .before .before .args .count)) (c .before .before .before .before .before .before .before .before .before .before .args .several)) (ap (λ (k : Client). repeats (k .known) (k .query .text)) (sym (c .before .before .before .before .before .before .before .with-query .ensures)) ∙ sym (c .before .before .before .before .before .before .repeats .ensures) ∙ c .before .before .before .before .before .if1 .taken)) (record { answer = refl; next = c .moved .ensures ∙ (λ i. withUnder (c .before .before .before .before .before .before .before .with-query .ensures i) under.Repeat 0); text = c .before .before .before .put-byte .ensures })
 
-put-query-requires : tie.Need-put-query-requires
-put-query-requires c κs = search needs
+put-line-requires : tie.Need-put-line-requires
+put-line-requires c κs = search needs
 
 moved-requires-2 : tie.Need-moved-requires-2
 moved-requires-2 c κs = search needs
@@ -40,7 +40,7 @@ same-length-2 : tie.Need-same-length-2
 same-length-2 c = search needs
 
 returns-2 : tie.Need-returns-2
-returns-2 c = does-as (query-in-full (client (c .before .before .before .before .before .before .before .before .before .before .args .self)) (newQuery (c .before .before .before .before .before .before .before .before .before .before .args .pids .now) (countOf (c .before .before .before .before .before .before .before .before .before .before .args .count)) (c .before .before .before .before .before .before .before .before .before .before .args .several)) (ap (λ (k : Client). repeats (k .known) (k .query .text)) (sym (c .before .before .before .before .before .before .before .with-query .ensures)) ∙ sym (c .before .before .before .before .before .before .repeats .ensures) ∙ c .before .before .before .before .before .if1 .left)) (record { answer = refl; next = c .moved2 .ensures ∙ (λ i. withUnder (c .before .before .before .before .before .before .before .with-query .ensures i) under.Query 0); text = subst (λ (k : Client). Put (c .before .before .before .before .before .before .before .before .before .before .args .out .now) 0 (k .query .text ++ (13 ∷ [])) (c .before .before .before .put-query .result) (c .before .before .before .put-query .last .1 .0)) (c .before .before .before .before .before .before .before .with-query .ensures) (c .before .before .before .put-query .ensures) })
+returns-2 c = does-as (query-in-full (client (c .before .before .before .before .before .before .before .before .before .before .before .args .self)) (newQuery (c .before .before .before .before .before .before .before .before .before .before .before .args .pids .now) (countOf (c .before .before .before .before .before .before .before .before .before .before .before .args .count)) (c .before .before .before .before .before .before .before .before .before .before .before .args .several)) (ap (λ (k : Client). repeats (k .known) (k .query .text)) (sym (c .before .before .before .before .before .before .before .before .with-query .ensures)) ∙ sym (c .before .before .before .before .before .before .before .repeats .ensures) ∙ c .before .before .before .before .before .before .if1 .left)) (record { answer = refl; next = c .moved2 .ensures ∙ (λ i. withUnder (c .before .before .before .before .before .before .before .before .with-query .ensures i) under.Query 0); text = subst (λ (k : Client). Put (c .before .before .before .before .before .before .before .before .before .before .before .args .out .now) 0 (k .query .text ++ (13 ∷ [])) (c .before .before .before .put-line .result) (c .before .before .before .put-line .last .1 .0)) (c .before .before .before .before .before .before .before .before .with-query .ensures) (c .before .before .before .put-line .ensures) })
 
 pub ask-spec : {M : Type 1} → statement M
 ask-spec =
@@ -52,7 +52,7 @@ ask-spec =
     moved-requires
     same-length
     returns
-    put-query-requires
+    put-line-requires
     moved-requires-2
     same-length-2
     returns-2)

@@ -7,7 +7,7 @@ use Rattle.client_command.proofs.CommandLaws.{cr-length}
 use Rattle.client_session.specs.declared.Under.the-variants as under
 use Rattle.client_session.proofs.StartLaws.{command-starts}
 use Rattle.client_session.proofs.StepLaws.{does-lent}
-use Rattle.client_session.specs.Session.{client, withUnder}
+use Rattle.client_session.specs.Session.{client, withUnder, withKnown, withLast}
 use Rattle.client_session.specs.Start.{commandSays}
 use Rattle.client_session.proofs.ClientSession.command.Statement.{statement}
 use Rattle.client_session.proofs.ClientSession.command.Tie as tie
@@ -20,14 +20,14 @@ unstarted-requires c κs = search needs
 
 returns : tie.Need-returns
 unfolding commandSays
-returns c = simp (sym (c .before .before .is-nothing .ensures) ∙ not-true _ (c .before .if1 .taken), c .unstarted .ensures)
+returns c = simp ((sym (c .before .before .is-nothing .ensures) ∙ not-true _ (c .before .if1 .taken)), c .unstarted .ensures)
 
 unstarted-requires-2 : tie.Need-unstarted-requires-2
 unstarted-requires-2 c κs = search needs
 
 returns-2 : tie.Need-returns-2
 unfolding commandSays
-returns-2 c = simp (sym (c .before .before .before .is-nothing .ensures) ∙ not-false _ (c .before .before .if1 .left), lt-ltb _ _ (c .before .if2 .taken), c .unstarted2 .ensures)
+returns-2 c = simp ((sym (c .before .before .before .is-nothing .ensures) ∙ not-false _ (c .before .before .if1 .left)), lt-ltb _ _ (c .before .if2 .taken), c .unstarted2 .ensures)
 
 has-high-requires : tie.Need-has-high-requires
 has-high-requires c κs = search needs
@@ -37,14 +37,14 @@ unstarted-requires-3 c κs = search needs
 
 returns-3 : tie.Need-returns-3
 unfolding commandSays
-returns-3 c = simp (sym (c .before .before .before .before .before .is-nothing .ensures) ∙ not-false _ (c .before .before .before .before .if1 .left), le-ltb _ _ (c .before .before .before .if2 .left), sym (c .before .before .has-high .ensures) ∙ c .before .if3 .taken, c .unstarted3 .ensures)
+returns-3 c = simp ((sym (c .before .before .before .before .before .is-nothing .ensures) ∙ not-false _ (c .before .before .before .before .if1 .left)), le-ltb _ _ (c .before .before .before .if2 .left), sym (c .before .before .has-high .ensures) ∙ c .before .if3 .taken, c .unstarted3 .ensures)
 
 unstarted-requires-4 : tie.Need-unstarted-requires-4
 unstarted-requires-4 c κs = search needs
 
 returns-4 : tie.Need-returns-4
 unfolding commandSays
-returns-4 c = simp (sym (c .before .before .before .before .before .before .is-nothing .ensures) ∙ not-false _ (c .before .before .before .before .before .if1 .left), le-ltb _ _ (c .before .before .before .before .if2 .left), sym (c .before .before .before .has-high .ensures) ∙ c .before .before .if3 .left, lt-ltb _ _ (c .before .if4 .taken), c .unstarted4 .ensures)
+returns-4 c = simp ((sym (c .before .before .before .before .before .before .is-nothing .ensures) ∙ not-false _ (c .before .before .before .before .before .if1 .left)), le-ltb _ _ (c .before .before .before .before .if2 .left), (sym (c .before .before .before .has-high .ensures) ∙ c .before .before .if3 .left), lt-ltb _ _ (c .before .if4 .taken), c .unstarted4 .ensures)
 
 put-command-requires : tie.Need-put-command-requires
 put-command-requires c κs = search needs
@@ -52,17 +52,17 @@ put-command-requires c κs = search needs
 framing-effect-requires : tie.Need-framing-effect-requires
 framing-effect-requires c κs = search needs
 
-forgetting-requires : tie.Need-forgetting-requires
-forgetting-requires c κs = search needs
+none-requires : tie.Need-none-requires
+none-requires c κs = search needs
 
-moved-requires : tie.Need-moved-requires
-moved-requires c κs = search needs
+with-requires : tie.Need-with-requires
+with-requires c κs = search needs
 
 same-length : tie.Need-same-length
 same-length c = search needs
 
 returns-5 : tie.Need-returns-5
-returns-5 c = rw (command-starts _ (client (c .before .before .before .before .before .before .before .before .before .before .before .before .before .before .before .args .self)) (sym (c .before .before .before .before .before .before .before .before .before .before .before .before .is-nothing .ensures) ∙ not-false _ (c .before .before .before .before .before .before .before .before .before .before .before .if1 .left)) (c .before .before .before .before .before .before .before .if4 .left) (c .before .before .before .before .before .before .before .before .before .before .before .before .before .before .before .args .command .now) (c .before .before .before .before .before .before .before .before .before .before .if2 .left) (sym (c .before .before .before .before .before .before .before .before .before .has-high .ensures) ∙ c .before .before .before .before .before .before .before .before .if3 .left)) (does-lent (record { answer = refl; next = c .moved .ensures ∙ (λ i. withUnder (c .before .forgetting .ensures i) (under.Raw (c .before .before .framing-effect .ensures i)) 0); text = c .before .before .before .before .before .put-command .ensures }) (omega (arith, cr-length (c .before .before .before .before .before .before .before .before .before .before .before .before .before .before .before .args .command .now))))
+returns-5 c = let s = (client (c .before .before .before .before .before .before .before .before .before .before .before .before .before .before .before .before .args .self)) in rw (command-starts _ s (sym (c .before .before .before .before .before .before .before .before .before .before .before .before .before .is-nothing .ensures) ∙ not-false _ (c .before .before .before .before .before .before .before .before .before .before .before .before .if1 .left)) (c .before .before .before .before .before .before .before .before .if4 .left) (c .before .before .before .before .before .before .before .before .before .before .before .before .before .before .before .before .args .command .now) (c .before .before .before .before .before .before .before .before .before .before .before .if2 .left) (sym (c .before .before .before .before .before .before .before .before .before .before .has-high .ensures) ∙ c .before .before .before .before .before .before .before .before .before .if3 .left)) (does-lent (record { answer = refl; next = c .with .ensures ∙ (λ i. withUnder (withKnown s (withLast (s .known) (c .before .none .ensures i))) (under.Raw (c .before .before .before .framing-effect .ensures i)) 0); text = c .before .before .before .before .before .before .put-command .ensures }) (omega (arith, cr-length (c .before .before .before .before .before .before .before .before .before .before .before .before .before .before .before .before .args .command .now))))
 
 pub command-spec : {M : Type 1} → statement M
 command-spec =
@@ -80,7 +80,7 @@ command-spec =
     returns-4
     put-command-requires
     framing-effect-requires
-    forgetting-requires
-    moved-requires
+    none-requires
+    with-requires
     same-length
     returns-5)

@@ -35,20 +35,14 @@ enum-known-under-2 c = search needs
 after-effect-requires : tie.Need-after-effect-requires
 after-effect-requires c κs = search needs
 
-with-framing-requires : tie.Need-with-framing-requires
-with-framing-requires c κs = search needs
-
-moved-requires : tie.Need-moved-requires
-moved-requires c κs = search needs
+over-requires : tie.Need-over-requires
+over-requires c κs = search needs
 
 enum-told-3 : tie.Need-enum-told-3
 enum-told-3 c = search needs
 
-remembering-requires : tie.Need-remembering-requires
-remembering-requires c κs = search needs
-
-moved-requires-2 : tie.Need-moved-requires-2
-moved-requires-2 c κs = search needs
+with-requires : tie.Need-with-requires
+with-requires c κs = search needs
 
 enum-told-4 : tie.Need-enum-told-4
 enum-told-4 c = search needs
@@ -63,34 +57,34 @@ unmoved-requires-2 : tie.Need-unmoved-requires-2
 unmoved-requires-2 c κs = search needs
 
 returns : tie.Need-returns
-returns c = does-as (ap (λ (u : Under). completed u (client (c .before .before .before .before .before .args .self)) (c .before .before .before .before .before .args .reply .now)) (c .before .enum-told .given .1)) (does-end (c .unmoved .ensures) refl)
+returns c = does-as (ap (λ (u : Under). completed u (client (c .before .before .before .before .before .before .before .args .self)) (c .before .before .before .before .before .before .before .args .reply .now)) (c .before .enum-told .given .1)) (does-end (c .unmoved .ensures) refl)
 
 same-length : tie.Need-same-length
 same-length c = search needs
 
 returns-2 : tie.Need-returns-2
-returns-2 c = does-as (ap (λ (u : Under). completed u (client (c .before .before .before .before .before .before .before .before .args .self)) (c .before .before .before .before .before .before .before .before .args .reply .now)) (c .before .before .before .before .enum-told2 .given .1)) (c .before .before .send-setup .ensures)
+returns-2 c = does-as (ap (λ (u : Under). completed u (client (c .before .before .before .before .before .before .before .before .before .before .args .self)) (c .before .before .before .before .before .before .before .before .before .before .args .reply .now)) (c .before .before .before .before .enum-told2 .given .1)) (c .before .before .send-setup .ensures)
 
 same-length-2 : tie.Need-same-length-2
 same-length-2 c = search needs
 
 returns-3 : tie.Need-returns-3
-returns-3 c = does-as (ap (λ (u : Under). completed u (client (c .before .before .before .before .before .before .before .before .before .args .self)) (c .before .before .before .before .before .before .before .before .before .args .reply .now)) (c .before .before .before .before .before .under .given .1)) (c .before .before .end-setup .ensures)
+returns-3 c = does-as (ap (λ (u : Under). completed u (client (c .before .before .before .before .before .before .before .before .before .before .before .args .self)) (c .before .before .before .before .before .before .before .before .before .before .before .args .reply .now)) (c .before .before .before .before .before .under .given .1)) (c .before .before .end-setup .ensures)
 
 returns-4 : tie.Need-returns-4
-returns-4 c = let s = client (c .before .before .before .before .before .before .before .before .args .self) in let n = length (c .before .before .before .before .before .before .before .before .args .reply .now) in does-as (ap (λ (u : Under). completed u (client (c .before .before .before .before .before .before .before .before .args .self)) (c .before .before .before .before .before .before .before .before .args .reply .now)) (c .before .before .before .before .under2 .given .1)) (record { answer = refl; next = c .moved .ensures ∙ (λ i. withUnder (c .before .with-framing .ensures i) under.Nothing n) ∙ (λ i. withUnder (withKnown s (withFraming (s .known) (c .before .before .after-effect .ensures i))) under.Nothing n); text = put-none _ _ })
+returns-4 c = let s = (client (c .before .before .before .before .before .before .before .before .before .args .self)) in does-as (ap (λ (u : Under). completed u (client (c .before .before .before .before .before .before .before .before .before .args .self)) (c .before .before .before .before .before .before .before .before .before .args .reply .now)) (c .before .before .before .under2 .given .1)) (record { answer = refl; next = c .over .ensures ∙ (λ i. withUnder (withKnown s (withFraming (s .known) (c .before .after-effect .ensures i))) under.Nothing (length (c .before .before .before .before .before .before .before .before .before .args .reply .now))); text = put-none _ _ })
 
 returns-5 : tie.Need-returns-5
-returns-5 c = does-as (ap (λ (u : Under). completed u (client (c .before .before .before .before .before .before .args .self)) (c .before .before .before .before .before .before .args .reply .now)) (c .before .before .enum-told3 .given .1)) (record { answer = refl; next = c .moved2 .ensures ∙ (λ i. withUnder (c .before .remembering .ensures i) under.Complete (length (c .before .before .before .before .before .before .args .reply .now))); text = put-none _ _ })
+returns-5 c = does-as (ap (λ (u : Under). completed u (client (c .before .before .before .before .before .before .before .args .self)) (c .before .before .before .before .before .before .before .args .reply .now)) (c .before .enum-told3 .given .1)) (record { answer = refl; next = c .with .ensures; text = put-none _ _ })
 
 same-length-3 : tie.Need-same-length-3
 same-length-3 c = search needs
 
 returns-6 : tie.Need-returns-6
-returns-6 c = does-as (ap (λ (u : Under). completed u (client (c .before .before .before .before .before .before .before .before .args .self)) (c .before .before .before .before .before .before .before .before .args .reply .now)) (c .before .before .before .before .enum-told4 .given .1)) (c .before .before .end-repeat .ensures)
+returns-6 c = does-as (ap (λ (u : Under). completed u (client (c .before .before .before .before .before .before .before .before .before .before .args .self)) (c .before .before .before .before .before .before .before .before .before .before .args .reply .now)) (c .before .before .before .before .enum-told4 .given .1)) (c .before .before .end-repeat .ensures)
 
 returns-7 : tie.Need-returns-7
-returns-7 c = does-as (ap (λ (u : Under). completed u (client (c .before .before .before .before .before .args .self)) (c .before .before .before .before .before .args .reply .now)) (c .before .enum-told5 .given .1)) (does-end (c .unmoved2 .ensures) refl)
+returns-7 c = does-as (ap (λ (u : Under). completed u (client (c .before .before .before .before .before .before .before .args .self)) (c .before .before .before .before .before .before .before .args .reply .now)) (c .before .enum-told5 .given .1)) (does-end (c .unmoved2 .ensures) refl)
 
 pub complete-spec : {M : Type 1} → statement M
 complete-spec =
@@ -104,11 +98,9 @@ complete-spec =
     end-setup-requires
     enum-known-under-2
     after-effect-requires
-    with-framing-requires
-    moved-requires
+    over-requires
     enum-told-3
-    remembering-requires
-    moved-requires-2
+    with-requires
     enum-told-4
     end-repeat-requires
     enum-told-5

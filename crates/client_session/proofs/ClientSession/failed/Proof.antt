@@ -1,11 +1,18 @@
 -- `client_session::ClientSession::failed` meets its contract.
-use mathlib.Core.Path.{sym, _∙_}
+use mathlib.Core.Path.{sym, ap, _∙_}
 use borrow.Author.Needs.{needs}
+use Rattle.server_state.specs.State.{decided}
+use Rattle.server_state.specs.declared.FeatureSupport.the-variants as support
+use Rattle.server_state.specs.State as server
+use Rattle.client_session.specs.Steps.{rebuilt}
 use Rattle.client_session.proofs.PieceLaws.{failed-several, failed-other}
 use Rattle.client_session.specs.declared.Under.the-variants as under
-use Rattle.client_session.specs.Session.{client, withUnder, withKnown, withRepeat, withMulti}
+use Rattle.client_session.specs.Session.{client, withUnder, withKnown, withLast, withMulti}
 use Rattle.client_session.proofs.ClientSession.failed.Statement.{statement}
 use Rattle.client_session.proofs.ClientSession.failed.Tie as tie
+
+none-requires : tie.Need-none-requires
+none-requires c κs = search needs
 
 is-several-requires : tie.Need-is-several-requires
 is-several-requires c κs = search needs
@@ -13,33 +20,30 @@ is-several-requires c κs = search needs
 decide-requires : tie.Need-decide-requires
 decide-requires c κs = search needs
 
-forgetting-requires : tie.Need-forgetting-requires
-forgetting-requires c κs = search needs
+with-multi-pid-requires : tie.Need-with-multi-pid-requires
+with-multi-pid-requires c κs = search needs
 
 with-requires : tie.Need-with-requires
 with-requires c κs = search needs
 
 returns : tie.Need-returns
-returns c = c .with .ensures ∙ (λ i. let k = c .before .forgetting .ensures i in withUnder (withKnown k (withMulti (withRepeat (k .known) (c .before .before .before .before .before .args .self .repeat)) (c .before .before .decide .ensures i))) under.Nothing 0) ∙ sym (failed-several (client (c .before .before .before .before .before .args .self)) (sym (c .before .before .before .before .is-several .ensures) ∙ c .before .before .before .if1 .taken))
+returns c = let a = c .before .before .before .before .before .before .before .args .self in let q = c .before .with-multi-pid .ensures ∙ ap (server.withMulti (a .server)) (c .before .before .decide .ensures) in let s = (client (c .before .before .before .before .before .before .before .args .self)) in c .with .ensures ∙ (λ i. rebuilt (a .«want_framing») (s .query) under.Nothing 0 (q i) (c .before .before .before .before .before .none .result)) ∙ (λ i. withUnder (withKnown s (withLast (withMulti (s .known) (decided (s .known .multi) support.No)) (c .before .before .before .before .before .none .ensures i))) under.Nothing 0) ∙ sym (failed-several s (sym (c .before .before .before .before .is-several .ensures) ∙ c .before .before .before .if1 .taken))
 
-forgetting-requires-2 : tie.Need-forgetting-requires-2
-forgetting-requires-2 c κs = search needs
-
-moved-requires : tie.Need-moved-requires
-moved-requires c κs = search needs
+with-requires-2 : tie.Need-with-requires-2
+with-requires-2 c κs = search needs
 
 returns-2 : tie.Need-returns-2
-returns-2 c = c .moved .ensures ∙ (λ i. withUnder (c .before .forgetting2 .ensures i) under.Nothing 0) ∙ sym (failed-other (client (c .before .before .before .before .args .self)) (sym (c .before .before .before .is-several .ensures) ∙ c .before .before .if1 .left))
+returns-2 c = let s = (client (c .before .before .before .before .before .args .self)) in c .with2 .ensures ∙ (λ i. withUnder (withKnown s (withLast (s .known) (c .before .before .before .none .ensures i))) under.Nothing 0) ∙ sym (failed-other s (sym (c .before .before .is-several .ensures) ∙ c .before .if1 .left))
 
 pub failed-spec : {M : Type 1} → statement M
 failed-spec =
     tie.close
     (tie.spec
+    none-requires
     is-several-requires
     decide-requires
-    forgetting-requires
+    with-multi-pid-requires
     with-requires
     returns
-    forgetting-requires-2
-    moved-requires
+    with-requires-2
     returns-2)

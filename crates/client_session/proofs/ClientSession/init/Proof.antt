@@ -18,14 +18,14 @@ unstarted-requires c κs = search needs
 
 returns : tie.Need-returns
 unfolding initSays
-returns c = simp (sym (c .before .before .is-nothing .ensures) ∙ not-true _ (c .before .if1 .taken), c .unstarted .ensures)
+returns c = simp ((sym (c .before .before .is-nothing .ensures) ∙ not-true _ (c .before .if1 .taken)), c .unstarted .ensures)
 
 unstarted-requires-2 : tie.Need-unstarted-requires-2
 unstarted-requires-2 c κs = search needs
 
 returns-2 : tie.Need-returns-2
 unfolding initSays
-returns-2 c = simp (sym (c .before .before .before .is-nothing .ensures) ∙ not-false _ (c .before .before .if1 .left), lt-ltb _ _ (c .before .if2 .taken), c .unstarted2 .ensures)
+returns-2 c = simp ((sym (c .before .before .before .is-nothing .ensures) ∙ not-false _ (c .before .before .if1 .left)), lt-ltb _ _ (c .before .if2 .taken), c .unstarted2 .ensures)
 
 slice-aggregate-put : tie.Need-slice-aggregate-put
 slice-aggregate-put c = search needs

@@ -65,7 +65,7 @@ same-length-3 : tie.Need-same-length-3
 same-length-3 c = search needs
 
 returns-6 : tie.Need-returns-6
-returns-6 c = let z = (sym (c .before .before .before .before .before .before .before .before .is-reset .ensures) ∙ c .before .before .before .before .before .before .before .if5 .left) in let h : length (c .before .before .before .before .before .before .before .before .before .before .before .before .before .before .before .before .before .before .args .self .query) ≡ 18 = search (needs, c .before .before .before .before .before .before .before .before .before .before .before .before .before .before .before .before .before .before .good) in does-received (client (c .before .before .before .before .before .before .before .before .before .before .before .before .before .before .before .before .before .before .args .self)) (c .before .before .before .before .before .before .before .before .before .before .before .before .before .before .before .before .before .before .args .piece .now) (c .before .before .before .before .before .before .before .before .before .before .before .before .before .before .before .before .before .before .args .store .now) (c .before .before .before .before .take .result) (piece-joined (length (c .before .before .before .before .before .before .before .before .before .before .before .before .before .before .before .before .before .before .args .out .now)) (client (c .before .before .before .before .before .before .before .before .before .before .before .before .before .before .before .before .before .before .args .self)) (c .before .before .before .before .before .before .before .before .before .before .before .before .before .before .before .before .before .before .args .piece .now) (c .before .before .before .before .before .before .before .before .before .before .before .before .before .before .before .before .before .before .args .store .now) (c .before .before .before .before .before .before .before .before .before .before .if3 .left) (c .before .before .before .before .before .before .before .before .before .if4 .left) (sym (c .before .before .before .before .before .before .before .before .before .before .before .before .before .before .is-awaited .ensures) ∙ not-false _ (c .before .before .before .before .before .before .before .before .before .before .before .before .before .if1 .left)) z (omega (arith, c .before .before .before .before .before .before .before .before .before .before .before .before .piece-limit .ensures, c .before .before .before .before .before .before .before .before .before .before .before .if2 .left, limit-reply (c .before .before .before .before .before .before .before .before .before .before .before .before .before .before .before .before .before .before .args .self .under) z))) (c .before .before .before .before .take .ensures .does) (omega (arith, takes-short (client (c .before .before .before .before .before .before .before .before .before .before .before .before .before .before .before .before .before .before .args .self)) (c .before .before .before .before .before .before .before .before .before .before .before .before .before .before .before .before .before .before .args .piece .now) (c .before .before .before .before .before .before .before .before .before .before .before .before .before .before .before .before .before .before .args .store .now), length-take (c .before .before .before .before .before .before .before .before .before .before .before .before .before .before .before .before .before .before .args .self .«query_len») (c .before .before .before .before .before .before .before .before .before .before .before .before .before .before .before .before .before .before .args .self .query), c .before .before .before .before .before .before .before .before .before .before .if3 .left)) (c .before .before .before .before .take .ensures .kept ∙ sym (stored-joined (c .before .before .before .before .before .before .before .before .before .before .before .before .before .before .before .before .before .before .args .self .under) _ (c .before .before .before .before .before .before .before .before .before .before .before .before .before .before .before .before .before .before .args .self .got) (c .before .before .before .before .before .before .before .before .before .before .before .before .before .before .before .before .before .before .args .piece .now) (c .before .before .before .before .before .before .before .before .before .before .before .before .before .before .before .before .before .before .args .store .now) (sym (c .before .before .before .before .before .before .before .before .before .before .before .before .before .before .is-awaited .ensures) ∙ not-false _ (c .before .before .before .before .before .before .before .before .before .before .before .before .before .if1 .left)) z))
+returns-6 c = let z = (sym (c .before .before .before .before .before .before .before .before .is-reset .ensures) ∙ c .before .before .before .before .before .before .before .if5 .left) in let h : length (c .before .before .before .before .before .before .before .before .before .before .before .before .before .before .before .before .before .before .args .self .query .bytes) ≡ 18 = search (needs, c .before .before .before .before .before .before .before .before .before .before .before .before .before .before .before .before .before .before .good) in does-received (client (c .before .before .before .before .before .before .before .before .before .before .before .before .before .before .before .before .before .before .args .self)) (c .before .before .before .before .before .before .before .before .before .before .before .before .before .before .before .before .before .before .args .piece .now) (c .before .before .before .before .before .before .before .before .before .before .before .before .before .before .before .before .before .before .args .store .now) (c .before .before .before .before .take .result) (piece-joined (length (c .before .before .before .before .before .before .before .before .before .before .before .before .before .before .before .before .before .before .args .out .now)) (client (c .before .before .before .before .before .before .before .before .before .before .before .before .before .before .before .before .before .before .args .self)) (c .before .before .before .before .before .before .before .before .before .before .before .before .before .before .before .before .before .before .args .piece .now) (c .before .before .before .before .before .before .before .before .before .before .before .before .before .before .before .before .before .before .args .store .now) (c .before .before .before .before .before .before .before .before .before .before .if3 .left) (c .before .before .before .before .before .before .before .before .before .if4 .left) (sym (c .before .before .before .before .before .before .before .before .before .before .before .before .before .before .is-awaited .ensures) ∙ not-false _ (c .before .before .before .before .before .before .before .before .before .before .before .before .before .if1 .left)) z (omega (arith, c .before .before .before .before .before .before .before .before .before .before .before .before .piece-limit .ensures, c .before .before .before .before .before .before .before .before .before .before .before .if2 .left, limit-reply (c .before .before .before .before .before .before .before .before .before .before .before .before .before .before .before .before .before .before .args .self .under) z))) (c .before .before .before .before .take .ensures .does) (omega (arith, takes-short (client (c .before .before .before .before .before .before .before .before .before .before .before .before .before .before .before .before .before .before .args .self)) (c .before .before .before .before .before .before .before .before .before .before .before .before .before .before .before .before .before .before .args .piece .now) (c .before .before .before .before .before .before .before .before .before .before .before .before .before .before .before .before .before .before .args .store .now), length-take (c .before .before .before .before .before .before .before .before .before .before .before .before .before .before .before .before .before .before .args .self .query .len) (c .before .before .before .before .before .before .before .before .before .before .before .before .before .before .before .before .before .before .args .self .query .bytes), c .before .before .before .before .before .before .before .before .before .before .if3 .left)) (c .before .before .before .before .take .ensures .kept ∙ sym (stored-joined (c .before .before .before .before .before .before .before .before .before .before .before .before .before .before .before .before .before .before .args .self .under) _ (c .before .before .before .before .before .before .before .before .before .before .before .before .before .before .before .before .before .before .args .self .got) (c .before .before .before .before .before .before .before .before .before .before .before .before .before .before .before .before .before .before .args .piece .now) (c .before .before .before .before .before .before .before .before .before .before .before .before .before .before .before .before .before .before .args .store .now) (sym (c .before .before .before .before .before .before .before .before .before .before .before .before .before .before .is-awaited .ensures) ∙ not-false _ (c .before .before .before .before .before .before .before .before .before .before .before .before .before .if1 .left)) z))
 
 pub piece-spec : {M : Type 1} → statement M
 piece-spec =

@@ -1,9 +1,9 @@
--- `client_session::ClientSession::ecu_count` meets its contract.
+-- `server_state::ServerState::ecu_count` meets its contract.
 use mathlib.Core.Path.{sym}
 use borrow.Author.Needs.{needs}
-use Rattle.client_session.proofs.StartLaws.{learned-some}
-use Rattle.client_session.proofs.ClientSession.ecu_count.Statement.{statement}
-use Rattle.client_session.proofs.ClientSession.ecu_count.Tie as tie
+use Rattle.server_state.proofs.StateLaws.{learned-some}
+use Rattle.server_state.proofs.ServerState.ecu_count.Statement.{statement}
+use Rattle.server_state.proofs.ServerState.ecu_count.Tie as tie
 
 array-read-count : tie.Need-array-read-count
 array-read-count c = search needs
