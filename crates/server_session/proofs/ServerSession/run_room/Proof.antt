@@ -17,8 +17,8 @@ returns c = let s = c .before .before .before .args .self in let k : length (s .
 command-size-requires : tie.Need-command-size-requires
 command-size-requires c κs = search needs
 
-sub-at_most : tie.Need-sub-at_most
-sub-at_most c = let s = c .before .before .before .before .before .args .self in let k : length (s .line) ≡ 128 = search needs in let h = length-take (s .len) (s .line) in omega (arith, c .command-size .ensures)
+sub-at-most : tie.Need-sub-at-most
+sub-at-most c = let s = c .before .before .before .before .before .args .self in let k : length (s .line) ≡ 128 = search needs in let h = length-take (s .len) (s .line) in omega (arith, c .command-size .ensures)
 
 at-most-requires : tie.Need-at-most-requires
 at-most-requires c κs = search needs
@@ -42,7 +42,7 @@ run-room-spec =
     is-reading-requires
     returns
     command-size-requires
-    sub-at_most
+    sub-at-most
     at-most-requires
     at-most-requires-2
     returns-2
