@@ -1,11 +1,14 @@
 -- Laws of a finish: what reading the reply says of the query, and the reply that the store holds.
 use mathlib.Core.Path.{_≡_, refl, sym, ap, _∙_}
 use mathlib.Core.List.{List, [], _∷_}
-use Prim.Native.Nat.{ℕ, _≤_, min}
+use mathlib.Core.Bool.{true, false}
+use Prim.Native.Nat.{ℕ, _≤_, _<_, min}
 use lib.Dec.{ltb}
 use lib.ListN.{length, take}
 use lib.Seq.{sets, take-all}
 use Rattle.wire.specs.Answer.{Answer, result, refused}
+use borrow.Author.Tests.{lt-ltb, le-ltb}
+use Rattle.wire.specs.Text.{high}
 use Rattle.wire.proofs.Cases.{by-test, from-no}
 use Rattle.wire.proofs.ListLaws.{take-min}
 use Rattle.line_list.specs.Lines.{Line}
@@ -17,12 +20,32 @@ use Rattle.reply_values.specs.Read.{Read, Asked, asked, replyRead, readValues, 
 use Rattle.reply_values.specs.declared.ReadAnswer.the-variants as read
 use Rattle.reply_values.specs.declared.ReplyRead.{ReplyRead}
 use Rattle.client_session.specs.Session.{Client, refusing, Served, lent}
-use Rattle.client_session.specs.Piece.{replyIn}
-use Rattle.client_session.specs.Finish.{taught, finishReply}
+use Rattle.client_session.specs.Piece.{failing, replyIn}
+use Rattle.client_session.specs.Finish.{isComplete, taught, finishReply, finishSays}
 
 -- the reply that the store holds
 pub reply-in : (c : Client) (store : List ℕ) (n : ℕ) → n ≡ min (c .got) 4096 → replyIn c store ≡ take n store
 reply-in c store n e = take-min (c .got) 4096 store ∙ ap (λ k. take k store) (sym e)
+
+-- a finish: each number, and none
+module _ (room : ℕ) (c : Client) (store : List ℕ) where
+  pub finish-early : isComplete (c .under) ≡ false → finishSays room c store ≡ refusing 1 c
+  unfolding finishSays
+  finish-early e = rw e
+
+  module _ (turn : isComplete (c .under) ≡ true) where
+    pub finish-small : length store < 4096 → finishSays room c store ≡ refusing 6 c
+    unfolding finishSays
+    finish-small h = rw (turn, lt-ltb (length store) 4096 h)
+
+    module _ (fits : 4096 ≤ length store) where
+      pub finish-high : high (replyIn c store) ≡ true → finishSays room c store ≡ failing 9 c
+      unfolding finishSays
+      finish-high e = rw (turn, le-ltb (length store) 4096 fits, e)
+
+      pub finish-low : high (replyIn c store) ≡ false → finishSays room c store ≡ finishReply room c (replyIn c store)
+      unfolding finishSays
+      finish-low e = rw (turn, le-ltb (length store) 4096 fits, e)
 
 -- a reply read for the query of a session
 module _ (c : Client) (reply out : List ℕ) (short : length reply ≤ 4096) where

@@ -12,7 +12,7 @@ use Rattle.wire.specs.Text.{ascii, high}
 use Rattle.client_command.specs.Commands.{withCR, framingEffect}
 use Rattle.client_session.specs.declared.Under.the-variants as under
 use Rattle.client_session.specs.Session.{Query, Client, Said, saying, refusing, withUnder, withKnown, withLast}
-use Rattle.client_session.specs.Start.{isNothing, startNumber, repeats, newQuery, asking, queryStarted, pidsNumber, initSays, commandSays, queryPidSays, queryPidsSays}
+use Rattle.client_session.specs.Start.{isNothing, startNumber, repeats, newQuery, asking, queryStarted, rawNumber, pidsNumber, initSays, commandSays, queryPidSays, queryPidsSays}
 
 -- the number of a start: 1, its own, 6, and none
 module _ (c : Client) (own room : ℕ) where
@@ -20,14 +20,35 @@ module _ (c : Client) (own room : ℕ) where
   start-early e = rw e
 
   module _ (free : isNothing (c .under) ≡ true) where
-    pub start-own : eqb own 0 ≡ false → startNumber c own room ≡ own
-    start-own e = rw (free, e)
+    pub start-own : (n : ℕ) → own ≡ n → eqb n 0 ≡ false → startNumber c own room ≡ n
+    start-own n e z = rw (free, e, z)
 
     pub start-small : own ≡ 0 → room < 80 → startNumber c own room ≡ 6
     start-small e h = rw (free, eq-eqb own 0 e, lt-ltb room 80 h)
 
     pub start-free : own ≡ 0 → 80 ≤ room → startNumber c own room ≡ 0
     start-free e h = rw (free, eq-eqb own 0 e, le-ltb room 80 h)
+
+-- a start that gets a number
+pub init-refused : (room : ℕ) (c : Client) (n : ℕ) → startNumber c 0 room ≡ n → eqb n 0 ≡ false → initSays room c ≡ refusing n c
+unfolding initSays
+init-refused room c n e z = rw (e, z)
+
+pub command-refused : (room : ℕ) (c : Client) (command : List ℕ) (n : ℕ) → startNumber c (rawNumber command) room ≡ n → eqb n 0 ≡ false → commandSays room c command ≡ refusing n c
+unfolding commandSays
+command-refused room c command n e z = rw (e, z)
+
+-- the number of a raw command
+module _ (command : List ℕ) where
+  pub raw-long : 64 < length command → rawNumber command ≡ 3
+  raw-long h = rw (lt-ltb 64 (length command) h)
+
+  module _ (short : length command ≤ 64) where
+    pub raw-high : high command ≡ true → rawNumber command ≡ 4
+    raw-high e = rw (le-ltb 64 (length command) short, e)
+
+    pub raw-fine : high command ≡ false → rawNumber command ≡ 0
+    raw-fine e = rw (le-ltb 64 (length command) short, e)
 
 -- a query by its number, and by whether it repeats the last one
 pub query-refused : (c : Client) (q : Query) (m n : ℕ) → m ≡ n → eqb n 0 ≡ false → queryStarted m c q ≡ refusing n c

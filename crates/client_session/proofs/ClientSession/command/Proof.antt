@@ -1,14 +1,15 @@
 -- `client_session::ClientSession::command` meets its contract.
 use mathlib.Core.Path.{refl, sym, _∙_}
 use native.Mathlib.Omega.{arith}
-use borrow.Author.Tests.{not-true, not-false, lt-ltb, le-ltb}
+use lib.ListN.{length}
+use borrow.Author.Tests.{not-true, not-false}
 use borrow.Author.Needs.{needs}
 use Rattle.client_command.proofs.CommandLaws.{cr-length}
 use Rattle.client_session.specs.declared.Under.the-variants as under
-use Rattle.client_session.proofs.StartLaws.{command-starts}
-use Rattle.client_session.proofs.StepLaws.{does-lent}
+use Rattle.client_session.proofs.StartLaws.{command-starts, command-refused, raw-long, raw-high, raw-fine, start-early, start-own, start-small}
+use Rattle.client_session.proofs.StepLaws.{does-lent, unstarted-lent}
 use Rattle.client_session.specs.Session.{client, withUnder, withKnown, withLast}
-use Rattle.client_session.specs.Start.{commandSays}
+use Rattle.client_session.specs.Start.{rawNumber}
 use Rattle.client_session.proofs.ClientSession.command.Statement.{statement}
 use Rattle.client_session.proofs.ClientSession.command.Tie as tie
 
@@ -19,15 +20,13 @@ unstarted-requires : tie.Need-unstarted-requires
 unstarted-requires c κs = search needs
 
 returns : tie.Need-returns
-unfolding commandSays
-returns c = simp ((sym (c .before .before .is-nothing .ensures) ∙ not-true _ (c .before .if1 .taken)), c .unstarted .ensures)
+returns c = rw (command-refused (length (c .before .before .before .before .before .args .out .now)) (client (c .before .before .before .before .before .args .self)) (c .before .before .before .before .before .args .command .now) 1 (start-early (client (c .before .before .before .before .before .args .self)) (rawNumber (c .before .before .before .before .before .args .command .now)) (length (c .before .before .before .before .before .args .out .now)) (sym (c .before .before .is-nothing .ensures) ∙ not-true _ (c .before .if1 .taken))) refl) (unstarted-lent (c .unstarted .ensures) refl)
 
 unstarted-requires-2 : tie.Need-unstarted-requires-2
 unstarted-requires-2 c κs = search needs
 
 returns-2 : tie.Need-returns-2
-unfolding commandSays
-returns-2 c = simp ((sym (c .before .before .before .is-nothing .ensures) ∙ not-false _ (c .before .before .if1 .left)), lt-ltb _ _ (c .before .if2 .taken), c .unstarted2 .ensures)
+returns-2 c = rw (command-refused (length (c .before .before .before .before .before .before .args .out .now)) (client (c .before .before .before .before .before .before .args .self)) (c .before .before .before .before .before .before .args .command .now) 3 (start-own (client (c .before .before .before .before .before .before .args .self)) (rawNumber (c .before .before .before .before .before .before .args .command .now)) (length (c .before .before .before .before .before .before .args .out .now)) (sym (c .before .before .before .is-nothing .ensures) ∙ not-false _ (c .before .before .if1 .left)) 3 (raw-long (c .before .before .before .before .before .before .args .command .now) (c .before .if2 .taken)) refl) refl) (unstarted-lent (c .unstarted2 .ensures) refl)
 
 has-high-requires : tie.Need-has-high-requires
 has-high-requires c κs = search needs
@@ -36,15 +35,13 @@ unstarted-requires-3 : tie.Need-unstarted-requires-3
 unstarted-requires-3 c κs = search needs
 
 returns-3 : tie.Need-returns-3
-unfolding commandSays
-returns-3 c = simp ((sym (c .before .before .before .before .before .is-nothing .ensures) ∙ not-false _ (c .before .before .before .before .if1 .left)), le-ltb _ _ (c .before .before .before .if2 .left), sym (c .before .before .has-high .ensures) ∙ c .before .if3 .taken, c .unstarted3 .ensures)
+returns-3 c = rw (command-refused (length (c .before .before .before .before .before .before .before .before .args .out .now)) (client (c .before .before .before .before .before .before .before .before .args .self)) (c .before .before .before .before .before .before .before .before .args .command .now) 4 (start-own (client (c .before .before .before .before .before .before .before .before .args .self)) (rawNumber (c .before .before .before .before .before .before .before .before .args .command .now)) (length (c .before .before .before .before .before .before .before .before .args .out .now)) (sym (c .before .before .before .before .before .is-nothing .ensures) ∙ not-false _ (c .before .before .before .before .if1 .left)) 4 (raw-high (c .before .before .before .before .before .before .before .before .args .command .now) (c .before .before .before .if2 .left) (sym (c .before .before .has-high .ensures) ∙ c .before .if3 .taken)) refl) refl) (unstarted-lent (c .unstarted3 .ensures) refl)
 
 unstarted-requires-4 : tie.Need-unstarted-requires-4
 unstarted-requires-4 c κs = search needs
 
 returns-4 : tie.Need-returns-4
-unfolding commandSays
-returns-4 c = simp ((sym (c .before .before .before .before .before .before .is-nothing .ensures) ∙ not-false _ (c .before .before .before .before .before .if1 .left)), le-ltb _ _ (c .before .before .before .before .if2 .left), (sym (c .before .before .before .has-high .ensures) ∙ c .before .before .if3 .left), lt-ltb _ _ (c .before .if4 .taken), c .unstarted4 .ensures)
+returns-4 c = rw (command-refused (length (c .before .before .before .before .before .before .before .before .before .args .out .now)) (client (c .before .before .before .before .before .before .before .before .before .args .self)) (c .before .before .before .before .before .before .before .before .before .args .command .now) 6 (start-small (client (c .before .before .before .before .before .before .before .before .before .args .self)) (rawNumber (c .before .before .before .before .before .before .before .before .before .args .command .now)) (length (c .before .before .before .before .before .before .before .before .before .args .out .now)) (sym (c .before .before .before .before .before .before .is-nothing .ensures) ∙ not-false _ (c .before .before .before .before .before .if1 .left)) (raw-fine (c .before .before .before .before .before .before .before .before .before .args .command .now) (c .before .before .before .before .if2 .left) (sym (c .before .before .before .has-high .ensures) ∙ c .before .before .if3 .left)) (c .before .if4 .taken)) refl) (unstarted-lent (c .unstarted4 .ensures) refl)
 
 put-command-requires : tie.Need-put-command-requires
 put-command-requires c κs = search needs

@@ -1,11 +1,11 @@
 -- `client_session::ClientSession::finish` meets its contract.
 use mathlib.Core.Path.{sym, ap, _∙_}
 use native.Mathlib.Omega.{arith}
-use lib.ListN.{length-take}
-use borrow.Author.Tests.{not-true, not-false, lt-ltb, le-ltb}
+use lib.ListN.{length-take, length}
+use borrow.Author.Tests.{not-true, not-false}
 use borrow.Author.Needs.{needs}
-use Rattle.client_session.proofs.FinishLaws.{reply-in}
-use Rattle.client_session.specs.Finish.{finishSays}
+use Rattle.wire.specs.Answer.{refused}
+use Rattle.client_session.proofs.FinishLaws.{reply-in, finish-early, finish-small, finish-high, finish-low}
 use Rattle.client_session.specs.Session.{client}
 use Rattle.wire.specs.Text.{high}
 use Rattle.client_session.proofs.ClientSession.finish.Statement.{statement}
@@ -18,15 +18,13 @@ unfinished-requires : tie.Need-unfinished-requires
 unfinished-requires c κs = search needs
 
 returns : tie.Need-returns
-unfolding finishSays
-returns c = simp (c .unfinished .ensures, sym (c .before .before .is-complete .ensures) ∙ not-true _ (c .before .if1 .taken))
+returns c = rw (finish-early (length (c .before .before .before .before .before .args .out .now)) (client (c .before .before .before .before .before .args .self)) (c .before .before .before .before .before .args .store .now) (sym (c .before .before .is-complete .ensures) ∙ not-true _ (c .before .if1 .taken)), c .unfinished .ensures)
 
 unfinished-requires-2 : tie.Need-unfinished-requires-2
 unfinished-requires-2 c κs = search needs
 
 returns-2 : tie.Need-returns-2
-unfolding finishSays
-returns-2 c = simp (c .unfinished2 .ensures, sym (c .before .before .before .is-complete .ensures) ∙ not-false _ (c .before .before .if1 .left), lt-ltb _ _ (c .before .if2 .taken))
+returns-2 c = rw (finish-small (length (c .before .before .before .before .before .before .args .out .now)) (client (c .before .before .before .before .before .before .args .self)) (c .before .before .before .before .before .before .args .store .now) (sym (c .before .before .before .is-complete .ensures) ∙ not-false _ (c .before .before .if1 .left)) (c .before .if2 .taken), c .unfinished2 .ensures)
 
 at-most-requires : tie.Need-at-most-requires
 at-most-requires c κs = search needs
@@ -41,8 +39,7 @@ failed-requires : tie.Need-failed-requires
 failed-requires c κs = search needs
 
 returns-3 : tie.Need-returns-3
-unfolding finishSays
-returns-3 c = simp (sym (c .before .before .before .before .before .before .before .is-complete .ensures) ∙ not-false _ (c .before .before .before .before .before .before .if1 .left), le-ltb _ _ (c .before .before .before .before .before .if2 .left), ap high (reply-in (client (c .before .before .before .before .before .before .before .before .before .before .args .self)) (c .before .before .before .before .before .before .before .before .before .before .args .store .now) (c .before .before .before .before .at-most .result) (c .before .before .before .before .at-most .ensures)) ∙ sym (c .before .before .has-high .ensures) ∙ c .before .if3 .taken, c .failed .ensures)
+returns-3 c = rw (finish-high (length (c .before .before .before .before .before .before .before .before .before .before .args .out .now)) (client (c .before .before .before .before .before .before .before .before .before .before .args .self)) (c .before .before .before .before .before .before .before .before .before .before .args .store .now) (sym (c .before .before .before .before .before .before .before .is-complete .ensures) ∙ not-false _ (c .before .before .before .before .before .before .if1 .left)) (c .before .before .before .before .before .if2 .left) (ap high (reply-in (client (c .before .before .before .before .before .before .before .before .before .before .args .self)) (c .before .before .before .before .before .before .before .before .before .before .args .store .now) (c .before .before .before .before .at-most .result) (c .before .before .before .before .at-most .ensures)) ∙ sym (c .before .before .has-high .ensures) ∙ c .before .if3 .taken)) (λ i. record { answer = refused 9; written = 0; next = c .failed .ensures i; out = c .before .before .before .before .before .before .before .before .before .before .args .out .now })
 
 slice-aggregate-finish-reply : tie.Need-slice-aggregate-finish-reply
 slice-aggregate-finish-reply c = omega (arith, c .before .before .before .before .at-most .ensures, length-take (c .before .before .before .before .at-most .result) (c .before .before .before .before .before .before .before .before .before .before .args .store .now))
@@ -54,8 +51,7 @@ same-length : tie.Need-same-length
 same-length c = search needs
 
 returns-4 : tie.Need-returns-4
-unfolding finishSays
-returns-4 c = simp (sym (c .before .before .before .before .before .before .before .before .before .before .before .is-complete .ensures) ∙ not-false _ (c .before .before .before .before .before .before .before .before .before .before .if1 .left), le-ltb _ _ (c .before .before .before .before .before .before .before .before .before .if2 .left), ap high (reply-in (client (c .before .before .before .before .before .before .before .before .before .before .before .before .before .before .args .self)) (c .before .before .before .before .before .before .before .before .before .before .before .before .before .before .args .store .now) (c .before .before .before .before .before .before .before .before .at-most .result) (c .before .before .before .before .before .before .before .before .at-most .ensures)) ∙ sym (c .before .before .before .before .before .before .has-high .ensures) ∙ c .before .before .before .before .before .if3 .left) (rw (reply-in (client (c .before .before .before .before .before .before .before .before .before .before .before .before .before .before .args .self)) (c .before .before .before .before .before .before .before .before .before .before .before .before .before .before .args .store .now) (c .before .before .before .before .before .before .before .before .at-most .result) (c .before .before .before .before .before .before .before .before .at-most .ensures)) (c .before .before .finish-reply .ensures))
+returns-4 c = rw (finish-low (length (c .before .before .before .before .before .before .before .before .before .before .before .before .before .before .args .out .now)) (client (c .before .before .before .before .before .before .before .before .before .before .before .before .before .before .args .self)) (c .before .before .before .before .before .before .before .before .before .before .before .before .before .before .args .store .now) (sym (c .before .before .before .before .before .before .before .before .before .before .before .is-complete .ensures) ∙ not-false _ (c .before .before .before .before .before .before .before .before .before .before .if1 .left)) (c .before .before .before .before .before .before .before .before .before .if2 .left) (ap high (reply-in (client (c .before .before .before .before .before .before .before .before .before .before .before .before .before .before .args .self)) (c .before .before .before .before .before .before .before .before .before .before .before .before .before .before .args .store .now) (c .before .before .before .before .before .before .before .before .at-most .result) (c .before .before .before .before .before .before .before .before .at-most .ensures)) ∙ sym (c .before .before .before .before .before .before .has-high .ensures) ∙ c .before .before .before .before .before .if3 .left), reply-in (client (c .before .before .before .before .before .before .before .before .before .before .before .before .before .before .args .self)) (c .before .before .before .before .before .before .before .before .before .before .before .before .before .before .args .store .now) (c .before .before .before .before .before .before .before .before .at-most .result) (c .before .before .before .before .before .before .before .before .at-most .ensures)) (c .before .before .finish-reply .ensures)
 
 pub finish-spec : {M : Type 1} → statement M
 finish-spec =

@@ -1,12 +1,12 @@
 -- `client_session::ClientSession::init` meets its contract.
 use mathlib.Core.Path.{refl, sym, _∙_}
 use native.Mathlib.Omega.{arith}
-use borrow.Author.Tests.{lt-ltb, not-true, not-false}
+use lib.ListN.{length}
+use borrow.Author.Tests.{not-true, not-false}
 use borrow.Author.Needs.{needs}
-use Rattle.client_session.proofs.StartLaws.{init-starts}
-use Rattle.client_session.proofs.StepLaws.{does-lent}
+use Rattle.client_session.proofs.StartLaws.{init-starts, init-refused, start-early, start-small}
+use Rattle.client_session.proofs.StepLaws.{does-lent, unstarted-lent}
 use Rattle.client_session.specs.Session.{client}
-use Rattle.client_session.specs.Start.{initSays}
 use Rattle.client_session.proofs.ClientSession.init.Statement.{statement}
 use Rattle.client_session.proofs.ClientSession.init.Tie as tie
 
@@ -17,15 +17,13 @@ unstarted-requires : tie.Need-unstarted-requires
 unstarted-requires c κs = search needs
 
 returns : tie.Need-returns
-unfolding initSays
-returns c = simp ((sym (c .before .before .is-nothing .ensures) ∙ not-true _ (c .before .if1 .taken)), c .unstarted .ensures)
+returns c = rw (init-refused (length (c .before .before .before .before .args .out .now)) (client (c .before .before .before .before .args .self)) 1 (start-early (client (c .before .before .before .before .args .self)) 0 (length (c .before .before .before .before .args .out .now)) (sym (c .before .before .is-nothing .ensures) ∙ not-true _ (c .before .if1 .taken))) refl) (unstarted-lent (c .unstarted .ensures) refl)
 
 unstarted-requires-2 : tie.Need-unstarted-requires-2
 unstarted-requires-2 c κs = search needs
 
 returns-2 : tie.Need-returns-2
-unfolding initSays
-returns-2 c = simp ((sym (c .before .before .before .is-nothing .ensures) ∙ not-false _ (c .before .before .if1 .left)), lt-ltb _ _ (c .before .if2 .taken), c .unstarted2 .ensures)
+returns-2 c = rw (init-refused (length (c .before .before .before .before .before .args .out .now)) (client (c .before .before .before .before .before .args .self)) 6 (start-small (client (c .before .before .before .before .before .args .self)) 0 (length (c .before .before .before .before .before .args .out .now)) (sym (c .before .before .before .is-nothing .ensures) ∙ not-false _ (c .before .before .if1 .left)) refl (c .before .if2 .taken)) refl) (unstarted-lent (c .unstarted2 .ensures) refl)
 
 slice-aggregate-put : tie.Need-slice-aggregate-put
 slice-aggregate-put c = search needs

@@ -29,14 +29,14 @@ unstarted-requires-2 c κs = search needs
 
 returns-2 : tie.Need-returns-2
 unfolding queryPidsSays
-returns-2 c = let e = pids-none (c .before .before .before .before .before .before .args .pids .now) (c .before .if2 .taken) in rw (query-refused (client (c .before .before .before .before .before .before .args .self)) (newQuery (c .before .before .before .before .before .before .args .pids .now) (countOf (c .before .before .before .before .before .before .args .count)) true) _ 2 (start-own (client (c .before .before .before .before .before .before .args .self)) (pidsNumber (c .before .before .before .before .before .before .args .pids .now)) (length (c .before .before .before .before .before .before .args .out .now)) (sym (c .before .before .before .is-nothing .ensures) ∙ not-false _ (c .before .before .if1 .left)) (rw e) ∙ e) refl) (unstarted-lent (c .unstarted2 .ensures) refl)
+returns-2 c = rw (query-refused (client (c .before .before .before .before .before .before .args .self)) (newQuery (c .before .before .before .before .before .before .args .pids .now) (countOf (c .before .before .before .before .before .before .args .count)) true) _ 2 (start-own (client (c .before .before .before .before .before .before .args .self)) (pidsNumber (c .before .before .before .before .before .before .args .pids .now)) (length (c .before .before .before .before .before .before .args .out .now)) (sym (c .before .before .before .is-nothing .ensures) ∙ not-false _ (c .before .before .if1 .left)) 2 (pids-none (c .before .before .before .before .before .before .args .pids .now) (c .before .if2 .taken)) refl) refl) (unstarted-lent (c .unstarted2 .ensures) refl)
 
 unstarted-requires-3 : tie.Need-unstarted-requires-3
 unstarted-requires-3 c κs = search needs
 
 returns-3 : tie.Need-returns-3
 unfolding queryPidsSays
-returns-3 c = let e = pids-many (c .before .before .before .before .before .before .before .args .pids .now) (c .before .if3 .taken) in rw (query-refused (client (c .before .before .before .before .before .before .before .args .self)) (newQuery (c .before .before .before .before .before .before .before .args .pids .now) (countOf (c .before .before .before .before .before .before .before .args .count)) true) _ 2 (start-own (client (c .before .before .before .before .before .before .before .args .self)) (pidsNumber (c .before .before .before .before .before .before .before .args .pids .now)) (length (c .before .before .before .before .before .before .before .args .out .now)) (sym (c .before .before .before .before .is-nothing .ensures) ∙ not-false _ (c .before .before .before .if1 .left)) (rw e) ∙ e) refl) (unstarted-lent (c .unstarted3 .ensures) refl)
+returns-3 c = rw (query-refused (client (c .before .before .before .before .before .before .before .args .self)) (newQuery (c .before .before .before .before .before .before .before .args .pids .now) (countOf (c .before .before .before .before .before .before .before .args .count)) true) _ 2 (start-own (client (c .before .before .before .before .before .before .before .args .self)) (pidsNumber (c .before .before .before .before .before .before .before .args .pids .now)) (length (c .before .before .before .before .before .before .before .args .out .now)) (sym (c .before .before .before .before .is-nothing .ensures) ∙ not-false _ (c .before .before .before .if1 .left)) 2 (pids-many (c .before .before .before .before .before .before .before .args .pids .now) (c .before .if3 .taken)) refl) refl) (unstarted-lent (c .unstarted3 .ensures) refl)
 
 unstarted-requires-4 : tie.Need-unstarted-requires-4
 unstarted-requires-4 c κs = search needs
