@@ -32,11 +32,11 @@ cards-hold = (refl, (refl, (refl, (refl, (refl, (refl, (refl, (refl, (refl, (ref
 
 -- card 13: six PIDs pass, seven get 2; byte 128 of a line is stored, the next gets 10
 pub six-pids : queryPidsSays 80 (freshClient true true) (replicate 6 0x0C) 0 .answer ≡ result tt
-unfolding queryPidsSays
+unfolding queryPidsSays queryText hexDigit
 six-pids = refl
 
 pub seven-pids : queryPidsSays 80 (freshClient true true) (replicate 7 0x0C) 0 .answer ≡ refused 2
-unfolding queryPidsSays
+unfolding queryPidsSays queryText hexDigit
 seven-pids = refl
 
 abbrev long : Heard
