@@ -242,3 +242,20 @@ module _ (c : Client) where
           go under.Query = number-fits 128 (replyTakes c piece store) takes-short
           go under.Repeat = number-fits 128 (replyTakes c piece store) takes-short
           go under.Complete = omega arith
+
+pub failure-fits : (room : ℕ) (c : Client) (write : Bool) → length (failureSays room c write .text) ≤ room
+failure-fits room c write =
+    by-test (isAwaited (c .under))
+    (λ turn.
+    by-test (ltb room 80)
+    (λ e. rw (failure-refused room c write turn (ltb-true room 80 e)) (omega arith))
+    (λ e.
+    let big = ltb-false room 80 e in
+    by-test (isReset (c .under))
+    (λ z. rw (failure-reset room c turn big write z) (reset-fits write big))
+    (λ z. rw (failure-ends room c turn big write z) (omega arith))))
+    (λ early. rw (failure-early room c write early) (omega arith))
+  where
+    reset-fits : (write : Bool) → 80 ≤ room → length (failureUnder under.Reset write c .text) ≤ room
+    reset-fits true h = omega arith
+    reset-fits false h = omega arith

@@ -4,15 +4,17 @@ use mathlib.Core.Bool.{Bool, true, false, cond}
 use mathlib.Core.List.{List, [], _∷_, _++_}
 use Prim.Native.Nat.{ℕ, _+_, _≤_, _<_}
 use native.Mathlib.Omega.{arith}
-use lib.Dec.{eqb}
+use lib.Dec.{eqb, ltb}
 use lib.ListN.{length, length-append}
-use borrow.Author.Tests.{eq-eqb, ne-eqb, lt-ltb, le-ltb}
+use borrow.Author.Tests.{eq-eqb, ne-eqb, lt-ltb, le-ltb, eqb-true, ltb-true, ltb-false}
 use Rattle.wire.proofs.Cases.{by-test}
 use Rattle.wire.specs.Text.{ascii, high}
+use Rattle.query.proofs.QueryLaws.{query-short}
 use Rattle.client_command.specs.Commands.{withCR, framingEffect}
+use Rattle.client_command.proofs.CommandLaws.{cr-length}
 use Rattle.client_session.specs.declared.Under.the-variants as under
 use Rattle.client_session.specs.Session.{Query, Client, Said, saying, refusing, withUnder, withKnown, withLast}
-use Rattle.client_session.specs.Start.{isNothing, startNumber, repeats, newQuery, asking, queryStarted, rawNumber, pidsNumber, initSays, commandSays, queryPidSays, queryPidsSays}
+use Rattle.client_session.specs.Start.{isNothing, startNumber, started, repeats, newQuery, asking, queryStarted, rawNumber, pidsNumber, initSays, commandSays, queryPidSays, queryPidsSays}
 
 -- the number of a start: 1, its own, 6, and none
 module _ (c : Client) (own room : ℕ) where
@@ -95,3 +97,47 @@ module _ (room : ℕ) (c : Client) (free : isNothing (c .under) ≡ true) (fits 
   pub pids-starts : (pids : List ℕ) (count : ℕ) → (length pids ≡ 0 → ⊥) → length pids ≤ 6 → queryPidsSays room c pids count ≡ queryStarted 0 c (newQuery pids count true)
   unfolding queryPidsSays
   pids-starts pids count some few = ap (λ n. queryStarted n c (newQuery pids count true)) (start-free c (pidsNumber pids) room free (pids-few pids some few) fits)
+
+-- ---- the bytes to send fit
+
+module _ (room : ℕ) (c : Client) where
+  started-fits : (own : ℕ) (next : Client) (text : List ℕ) → (own ≡ 0 → length text ≤ 80) → length (started (startNumber c own room) c next text .text) ≤ room
+  started-fits own next text short =
+      by-test (isNothing (c .under))
+      (λ free.
+      by-test (eqb own 0)
+      (λ e.
+      by-test (ltb room 80)
+      (λ f. rw (free, e, f) (omega arith))
+      (λ f. let h = short (eqb-true own 0 e) in let big = ltb-false room 80 f in rw (free, e, f) (omega arith)))
+      (λ e. rw (free, e, e) (omega arith)))
+      (λ busy. rw busy (omega arith))
+
+  query-fits : (own : ℕ) (q : Query) → (own ≡ 0 → length (q .text) ≤ 79) → length (queryStarted (startNumber c own room) c q .text) ≤ room
+  query-fits own q short =
+      by-test (repeats (c .known) (q .text))
+      (λ e. rw e (started-fits own (asking c q under.Repeat) (13 ∷ []) (λ z. omega arith)))
+      (λ e. rw e (started-fits own (asking c q under.Query) (q .text ++ (13 ∷ [])) (λ z. omega (arith, short z, length-append (q .text) (13 ∷ [])))))
+
+  pub init-fits : length (initSays room c .text) ≤ room
+  unfolding initSays
+  init-fits = started-fits 0 (withUnder c under.Reset 0) (ascii "ATZ\r") (λ z. omega arith)
+
+  pub command-fits : (command : List ℕ) → length (commandSays room c command .text) ≤ room
+  unfolding commandSays
+  command-fits command =
+      started-fits (rawNumber command) (withUnder (withKnown c (withLast (c .known) [])) (under.Raw (framingEffect command)) 0) (withCR command)
+      (λ z. by-test (ltb 64 (length command)) (λ e. let w : 3 ≡ 0 = rw e at z in absurd (omega arith)) (λ e. let short = ltb-false 64 (length command) e in omega (arith, cr-length command)))
+
+  pub pid-fits : (pid count : ℕ) → length (queryPidSays room c pid count .text) ≤ room
+  unfolding queryPidSays
+  pid-fits pid count = query-fits 0 (newQuery (pid ∷ []) count false) (λ z. omega (arith, query-short (pid ∷ []) count (omega arith)))
+
+  pub pids-fits : (pids : List ℕ) (count : ℕ) → length (queryPidsSays room c pids count .text) ≤ room
+  unfolding queryPidsSays
+  pids-fits pids count =
+      query-fits (pidsNumber pids) (newQuery pids count true)
+      (λ z.
+      by-test (ltb 6 (length pids))
+      (λ e. let two = pids-many pids (ltb-true 6 (length pids) e) in absurd (omega arith))
+      (λ e. omega (arith, query-short pids count (ltb-false 6 (length pids) e))))

@@ -18,3 +18,7 @@ text-within q h e = ap (λ i. take i (q .bytes)) e ∙ sym (take-min (q .len) 18
 -- the text of a query of at most six PIDs is kept whole
 pub kept-whole : (pids : List ℕ) (count : ℕ) → length pids ≤ 6 → take 18 (queryText pids count) ≡ queryText pids count
 kept-whole pids count h = take-all 18 (queryText pids count) (query-short pids count h)
+
+-- a text has at most 18 bytes
+pub text-short : (q : QueryText) → length (q .bytes) ≡ 18 → length (text q) ≤ 18
+text-short q h = omega (arith, length-take (q .len) (q .bytes))
