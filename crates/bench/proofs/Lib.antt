@@ -1,1 +1,2 @@
 pub mod ReplyBack
+pub mod Given
