@@ -8,7 +8,7 @@ use lib.ListN.{length, take, drop, length-append, length-take}
 use lib.Seq.{sets, sets-eq, take-at, take-take}
 use Rattle.wire.specs.Answer.{Answer, result, refused}
 use Rattle.wire.specs.Put.{Put}
-use Rattle.wire.specs.Text.{has}
+use Rattle.wire.specs.Text.{has, high}
 use Rattle.wire.proofs.Cases.{by-test, from-no}
 use Rattle.client_session.specs.declared.Under.{Under}
 use Rattle.client_session.specs.declared.Under.the-variants as under
@@ -27,6 +27,9 @@ store-holds store got piece h =
 -- the reply so far, where it has at most 4,096 bytes
 pub reply-in : (c : Client) (store : List ℕ) → c .got ≤ 4096 → replyIn c store ≡ take (c .got) store
 reply-in c store h = take-take (c .got) 4096 store h
+
+pub reply-high : (c : Client) (piece store : List ℕ) {b : Bool} → c .got ≤ 4096 → high (take (c .got) store ++ piece) ≡ b → high (replyIn c store ++ piece) ≡ b
+reply-high c piece store h e = ap (λ (t : List ℕ). high (t ++ piece)) (reply-in c store h) ∙ e
 
 -- a piece that was put into the store has joined the reply
 pub joined-reply : (c : Client) (piece store : List ℕ) {end : ℕ} {store₁ : List ℕ} → Put store (c .got) piece end store₁ → c .got + length piece ≤ 4096 → 4096 ≤ length store →

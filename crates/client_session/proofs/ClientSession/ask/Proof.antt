@@ -28,7 +28,12 @@ same-length : tie.Need-same-length
 same-length c = search needs
 
 returns : tie.Need-returns
-returns c = does-as (query-repeated (client (c .before .before .before .before .before .before .before .before .before .before .args .self)) (newQuery (c .before .before .before .before .before .before .before .before .before .before .args .pids .now) (countOf (c .before .before .before .before .before .before .before .before .before .before .args .count)) (c .before .before .before .before .before .before .before .before .before .before .args .several)) (ap (λ (k : Client). repeats (k .known) (k .query .text)) (sym (c .before .before .before .before .before .before .before .with-query .ensures)) ∙ sym (c .before .before .before .before .before .before .repeats .ensures) ∙ c .before .before .before .before .before .if1 .taken)) (record { answer = refl; next = c .moved .ensures ∙ (λ i. withUnder (c .before .before .before .before .before .before .before .with-query .ensures i) under.Repeat 0); text = c .before .before .before .put-byte .ensures })
+returns c = let s = c .before .before .before .before .before .before .before .before .before .before in
+    let k = client (s .args .self) in
+    let q = newQuery (s .args .pids .now) (countOf (s .args .count)) (s .args .several) in
+    let same = ap (λ (x : Client). repeats (x .known) (x .query .text)) (sym (c .before .before .before .before .before .before .before .with-query .ensures)) ∙ sym (c .before .before .before .before .before .before .repeats .ensures) in
+    does-as (query-repeated k q (same ∙ c .before .before .before .before .before .if1 .taken))
+    (record { answer = refl; next = c .moved .ensures ∙ (λ i. withUnder (c .before .before .before .before .before .before .before .with-query .ensures i) under.Repeat 0); text = c .before .before .before .put-byte .ensures })
 
 put-line-requires : tie.Need-put-line-requires
 put-line-requires c κs = search needs
@@ -40,7 +45,13 @@ same-length-2 : tie.Need-same-length-2
 same-length-2 c = search needs
 
 returns-2 : tie.Need-returns-2
-returns-2 c = does-as (query-in-full (client (c .before .before .before .before .before .before .before .before .before .before .before .args .self)) (newQuery (c .before .before .before .before .before .before .before .before .before .before .before .args .pids .now) (countOf (c .before .before .before .before .before .before .before .before .before .before .before .args .count)) (c .before .before .before .before .before .before .before .before .before .before .before .args .several)) (ap (λ (k : Client). repeats (k .known) (k .query .text)) (sym (c .before .before .before .before .before .before .before .before .with-query .ensures)) ∙ sym (c .before .before .before .before .before .before .before .repeats .ensures) ∙ c .before .before .before .before .before .before .if1 .left)) (record { answer = refl; next = c .moved2 .ensures ∙ (λ i. withUnder (c .before .before .before .before .before .before .before .before .with-query .ensures i) under.Query 0); text = subst (λ (k : Client). Put (c .before .before .before .before .before .before .before .before .before .before .before .args .out .now) 0 (k .query .text ++ (13 ∷ [])) (c .before .before .before .put-line .result) (c .before .before .before .put-line .last .1 .0)) (c .before .before .before .before .before .before .before .before .with-query .ensures) (c .before .before .before .put-line .ensures) })
+returns-2 c = let s = c .before .before .before .before .before .before .before .before .before .before .before in
+    let k = client (s .args .self) in
+    let q = newQuery (s .args .pids .now) (countOf (s .args .count)) (s .args .several) in
+    let same = ap (λ (x : Client). repeats (x .known) (x .query .text)) (sym (c .before .before .before .before .before .before .before .before .with-query .ensures)) ∙ sym (c .before .before .before .before .before .before .before .repeats .ensures) in
+    let text = subst (λ (x : Client). Put (s .args .out .now) 0 (x .query .text ++ (13 ∷ [])) (c .before .before .before .put-line .result) (c .before .before .before .put-line .last .1 .0)) (c .before .before .before .before .before .before .before .before .with-query .ensures) (c .before .before .before .put-line .ensures) in
+    does-as (query-in-full k q (same ∙ c .before .before .before .before .before .before .if1 .left))
+    (record { answer = refl; next = c .moved2 .ensures ∙ (λ i. withUnder (c .before .before .before .before .before .before .before .before .with-query .ensures i) under.Query 0); text = text })
 
 pub ask-spec : {M : Type 1} → statement M
 ask-spec =

@@ -20,13 +20,23 @@ unstarted-requires : tie.Need-unstarted-requires
 unstarted-requires c κs = search needs
 
 returns : tie.Need-returns
-returns c = rw (command-refused (length (c .before .before .before .before .before .args .out .now)) (client (c .before .before .before .before .before .args .self)) (c .before .before .before .before .before .args .command .now) 1 (start-early (client (c .before .before .before .before .before .args .self)) (rawNumber (c .before .before .before .before .before .args .command .now)) (length (c .before .before .before .before .before .args .out .now)) (sym (c .before .before .is-nothing .ensures) ∙ not-true _ (c .before .if1 .taken))) refl) (unstarted-lent (c .unstarted .ensures) refl)
+returns c = let s = c .before .before .before .before .before in
+    let k = client (s .args .self) in
+    let room = length (s .args .out .now) in
+    let t = s .args .command .now in
+    let busy = sym (c .before .before .is-nothing .ensures) ∙ not-true _ (c .before .if1 .taken) in
+    rw (command-refused room k t 1 (start-early k (rawNumber t) room busy) refl) (unstarted-lent (c .unstarted .ensures) refl)
 
 unstarted-requires-2 : tie.Need-unstarted-requires-2
 unstarted-requires-2 c κs = search needs
 
 returns-2 : tie.Need-returns-2
-returns-2 c = rw (command-refused (length (c .before .before .before .before .before .before .args .out .now)) (client (c .before .before .before .before .before .before .args .self)) (c .before .before .before .before .before .before .args .command .now) 3 (start-own (client (c .before .before .before .before .before .before .args .self)) (rawNumber (c .before .before .before .before .before .before .args .command .now)) (length (c .before .before .before .before .before .before .args .out .now)) (sym (c .before .before .before .is-nothing .ensures) ∙ not-false _ (c .before .before .if1 .left)) 3 (raw-long (c .before .before .before .before .before .before .args .command .now) (c .before .if2 .taken)) refl) refl) (unstarted-lent (c .unstarted2 .ensures) refl)
+returns-2 c = let s = c .before .before .before .before .before .before in
+    let k = client (s .args .self) in
+    let room = length (s .args .out .now) in
+    let t = s .args .command .now in
+    let free = sym (c .before .before .before .is-nothing .ensures) ∙ not-false _ (c .before .before .if1 .left) in
+    rw (command-refused room k t 3 (start-own k (rawNumber t) room free 3 (raw-long t (c .before .if2 .taken)) refl) refl) (unstarted-lent (c .unstarted2 .ensures) refl)
 
 has-high-requires : tie.Need-has-high-requires
 has-high-requires c κs = search needs
@@ -35,13 +45,23 @@ unstarted-requires-3 : tie.Need-unstarted-requires-3
 unstarted-requires-3 c κs = search needs
 
 returns-3 : tie.Need-returns-3
-returns-3 c = rw (command-refused (length (c .before .before .before .before .before .before .before .before .args .out .now)) (client (c .before .before .before .before .before .before .before .before .args .self)) (c .before .before .before .before .before .before .before .before .args .command .now) 4 (start-own (client (c .before .before .before .before .before .before .before .before .args .self)) (rawNumber (c .before .before .before .before .before .before .before .before .args .command .now)) (length (c .before .before .before .before .before .before .before .before .args .out .now)) (sym (c .before .before .before .before .before .is-nothing .ensures) ∙ not-false _ (c .before .before .before .before .if1 .left)) 4 (raw-high (c .before .before .before .before .before .before .before .before .args .command .now) (c .before .before .before .if2 .left) (sym (c .before .before .has-high .ensures) ∙ c .before .if3 .taken)) refl) refl) (unstarted-lent (c .unstarted3 .ensures) refl)
+returns-3 c = let s = c .before .before .before .before .before .before .before .before in
+    let k = client (s .args .self) in
+    let room = length (s .args .out .now) in
+    let t = s .args .command .now in
+    let free = sym (c .before .before .before .before .before .is-nothing .ensures) ∙ not-false _ (c .before .before .before .before .if1 .left) in
+    rw (command-refused room k t 4 (start-own k (rawNumber t) room free 4 (raw-high t (c .before .before .before .if2 .left) (sym (c .before .before .has-high .ensures) ∙ c .before .if3 .taken)) refl) refl) (unstarted-lent (c .unstarted3 .ensures) refl)
 
 unstarted-requires-4 : tie.Need-unstarted-requires-4
 unstarted-requires-4 c κs = search needs
 
 returns-4 : tie.Need-returns-4
-returns-4 c = rw (command-refused (length (c .before .before .before .before .before .before .before .before .before .args .out .now)) (client (c .before .before .before .before .before .before .before .before .before .args .self)) (c .before .before .before .before .before .before .before .before .before .args .command .now) 6 (start-small (client (c .before .before .before .before .before .before .before .before .before .args .self)) (rawNumber (c .before .before .before .before .before .before .before .before .before .args .command .now)) (length (c .before .before .before .before .before .before .before .before .before .args .out .now)) (sym (c .before .before .before .before .before .before .is-nothing .ensures) ∙ not-false _ (c .before .before .before .before .before .if1 .left)) (raw-fine (c .before .before .before .before .before .before .before .before .before .args .command .now) (c .before .before .before .before .if2 .left) (sym (c .before .before .before .has-high .ensures) ∙ c .before .before .if3 .left)) (c .before .if4 .taken)) refl) (unstarted-lent (c .unstarted4 .ensures) refl)
+returns-4 c = let s = c .before .before .before .before .before .before .before .before .before in
+    let k = client (s .args .self) in
+    let room = length (s .args .out .now) in
+    let t = s .args .command .now in
+    let free = sym (c .before .before .before .before .before .before .is-nothing .ensures) ∙ not-false _ (c .before .before .before .before .before .if1 .left) in
+    rw (command-refused room k t 6 (start-small k (rawNumber t) room free (raw-fine t (c .before .before .before .before .if2 .left) (sym (c .before .before .before .has-high .ensures) ∙ c .before .before .if3 .left)) (c .before .if4 .taken)) refl) (unstarted-lent (c .unstarted4 .ensures) refl)
 
 put-command-requires : tie.Need-put-command-requires
 put-command-requires c κs = search needs
@@ -59,7 +79,19 @@ same-length : tie.Need-same-length
 same-length c = search needs
 
 returns-5 : tie.Need-returns-5
-returns-5 c = let s = (client (c .before .before .before .before .before .before .before .before .before .before .before .before .before .before .before .before .args .self)) in rw (command-starts _ s (sym (c .before .before .before .before .before .before .before .before .before .before .before .before .before .is-nothing .ensures) ∙ not-false _ (c .before .before .before .before .before .before .before .before .before .before .before .before .if1 .left)) (c .before .before .before .before .before .before .before .before .if4 .left) (c .before .before .before .before .before .before .before .before .before .before .before .before .before .before .before .before .args .command .now) (c .before .before .before .before .before .before .before .before .before .before .before .if2 .left) (sym (c .before .before .before .before .before .before .before .before .before .before .has-high .ensures) ∙ c .before .before .before .before .before .before .before .before .before .if3 .left)) (does-lent (record { answer = refl; next = c .with .ensures ∙ (λ i. withUnder (withKnown s (withLast (s .known) (c .before .none .ensures i))) (under.Raw (c .before .before .before .framing-effect .ensures i)) 0); text = c .before .before .before .before .before .before .put-command .ensures }) (omega (arith, cr-length (c .before .before .before .before .before .before .before .before .before .before .before .before .before .before .before .before .args .command .now))))
+returns-5 c = let s = c .before .before .before .before .before .before .before .before .before .before .before .before .before .before .before .before in
+    let k = client (s .args .self) in
+    let room = length (s .args .out .now) in
+    let t = s .args .command .now in
+    let free = sym (c .before .before .before .before .before .before .before .before .before .before .before .before .before .is-nothing .ensures) ∙ not-false _ (c .before .before .before .before .before .before .before .before .before .before .before .before .if1 .left) in
+    rw (command-starts room k free (c .before .before .before .before .before .before .before .before .if4 .left) t (c .before .before .before .before .before .before .before .before .before .before .before .if2 .left) (sym (c .before .before .before .before .before .before .before .before .before .before .has-high .ensures) ∙ c .before .before .before .before .before .before .before .before .before .if3 .left))
+    (does-lent
+    (record {
+      answer = refl;
+      next = c .with .ensures ∙ (λ i. withUnder (withKnown k (withLast (k .known) (c .before .none .ensures i))) (under.Raw (c .before .before .before .framing-effect .ensures i)) 0);
+      text = c .before .before .before .before .before .before .put-command .ensures;
+    })
+    (omega (arith, cr-length t, c .before .before .before .before .before .before .before .before .before .before .before .if2 .left, c .before .before .before .before .before .before .before .before .if4 .left)))
 
 pub command-spec : {M : Type 1} → statement M
 command-spec =

@@ -72,7 +72,15 @@ returns-3 : tie.Need-returns-3
 returns-3 c = does-as (ap (λ (u : Under). completed u (client (c .before .before .before .before .before .before .before .before .before .before .before .args .self)) (c .before .before .before .before .before .before .before .before .before .before .before .args .reply .now)) (c .before .before .before .before .before .under .given .1)) (c .before .before .end-setup .ensures)
 
 returns-4 : tie.Need-returns-4
-returns-4 c = let s = (client (c .before .before .before .before .before .before .before .before .before .args .self)) in does-as (ap (λ (u : Under). completed u (client (c .before .before .before .before .before .before .before .before .before .args .self)) (c .before .before .before .before .before .before .before .before .before .args .reply .now)) (c .before .before .before .under2 .given .1)) (record { answer = refl; next = c .over .ensures ∙ (λ i. withUnder (withKnown s (withFraming (s .known) (c .before .after-effect .ensures i))) under.Nothing (length (c .before .before .before .before .before .before .before .before .before .args .reply .now))); text = put-none _ _ })
+returns-4 c = let s = c .before .before .before .before .before .before .before .before .before in
+    let k = client (s .args .self) in
+    let r = s .args .reply .now in
+    does-as (ap (λ (u : Under). completed u k r) (c .before .before .before .under2 .given .1))
+    (record {
+      answer = refl;
+      next = c .over .ensures ∙ (λ i. withUnder (withKnown k (withFraming (k .known) (c .before .after-effect .ensures i))) under.Nothing (length r));
+      text = put-none _ _;
+    })
 
 returns-5 : tie.Need-returns-5
 returns-5 c = does-as (ap (λ (u : Under). completed u (client (c .before .before .before .before .before .before .before .args .self)) (c .before .before .before .before .before .before .before .args .reply .now)) (c .before .enum-told3 .given .1)) (record { answer = refl; next = c .with .ensures; text = put-none _ _ })

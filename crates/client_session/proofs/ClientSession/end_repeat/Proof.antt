@@ -26,7 +26,14 @@ same-length : tie.Need-same-length
 same-length c = search needs
 
 returns : tie.Need-returns
-returns c = rw (sym (c .before .before .before .before .before .before .before .before .has .ensures) ∙ c .before .before .before .before .before .before .before .if1 .taken) (record { answer = refl; next = c .with .ensures ∙ (λ i. rebuilt (c .before .before .before .before .before .before .before .before .before .before .before .before .before .args .self .«want_framing») ((client (c .before .before .before .before .before .before .before .before .before .before .before .before .before .args .self)) .query) under.Query 0 (c .before .with-repeat .ensures i) (c .before .before .before .before .before .before .before .before .before .before .before .before .before .args .self .last)); text = c .before .before .before .before .put-line .ensures })
+returns c = let s = c .before .before .before .before .before .before .before .before .before .before .before .before .before in
+    let k = client (s .args .self) in
+    rw (sym (c .before .before .before .before .before .before .before .before .has .ensures) ∙ c .before .before .before .before .before .before .before .if1 .taken)
+    (record {
+      answer = refl;
+      next = c .with .ensures ∙ (λ i. rebuilt (k .known .wanted) (k .query) under.Query 0 (c .before .with-repeat .ensures i) (s .args .self .last));
+      text = c .before .before .before .before .put-line .ensures;
+    })
 
 decide-requires : tie.Need-decide-requires
 decide-requires c κs = search needs
@@ -38,7 +45,15 @@ with-requires-2 : tie.Need-with-requires-2
 with-requires-2 c κs = search needs
 
 returns-2 : tie.Need-returns-2
-returns-2 c = let a = c .before .before .before .before .before .before .before .before .before .args .self in let q = c .before .with-repeat2 .ensures ∙ ap (server.withRepeat (a .server)) (c .before .before .decide .ensures) in rw (sym (c .before .before .before .before .has .ensures) ∙ c .before .before .before .if1 .left) (record { answer = refl; next = c .with2 .ensures ∙ (λ i. rebuilt (a .«want_framing») ((client (c .before .before .before .before .before .before .before .before .before .args .self)) .query) under.Complete (length (c .before .before .before .before .before .before .before .before .before .args .reply .now)) (q i) (a .last)); text = put-none _ _ })
+returns-2 c = let s = c .before .before .before .before .before .before .before .before .before in
+    let k = client (s .args .self) in
+    let q = c .before .with-repeat2 .ensures ∙ ap (server.withRepeat (s .args .self .server)) (c .before .before .decide .ensures) in
+    rw (sym (c .before .before .before .before .has .ensures) ∙ c .before .before .before .if1 .left)
+    (record {
+      answer = refl;
+      next = c .with2 .ensures ∙ (λ i. rebuilt (k .known .wanted) (k .query) under.Complete (length (s .args .reply .now)) (q i) (s .args .self .last));
+      text = put-none _ _;
+    })
 
 pub end-repeat-spec : {M : Type 1} → statement M
 end-repeat-spec =

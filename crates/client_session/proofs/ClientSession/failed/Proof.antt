@@ -27,13 +27,21 @@ with-requires : tie.Need-with-requires
 with-requires c κs = search needs
 
 returns : tie.Need-returns
-returns c = let a = c .before .before .before .before .before .before .before .args .self in let q = c .before .with-multi-pid .ensures ∙ ap (server.withMulti (a .server)) (c .before .before .decide .ensures) in let s = (client (c .before .before .before .before .before .before .before .args .self)) in c .with .ensures ∙ (λ i. rebuilt (a .«want_framing») (s .query) under.Nothing 0 (q i) (c .before .before .before .before .before .none .result)) ∙ (λ i. withUnder (withKnown s (withLast (withMulti (s .known) (decided (s .known .multi) support.No)) (c .before .before .before .before .before .none .ensures i))) under.Nothing 0) ∙ sym (failed-several s (sym (c .before .before .before .before .is-several .ensures) ∙ c .before .before .before .if1 .taken))
+returns c = let s = c .before .before .before .before .before .before .before in
+    let k = client (s .args .self) in
+    let q = c .before .with-multi-pid .ensures ∙ ap (server.withMulti (s .args .self .server)) (c .before .before .decide .ensures) in
+    c .with .ensures ∙ (λ i. rebuilt (k .known .wanted) (k .query) under.Nothing 0 (q i) (c .before .before .before .before .before .none .result)) ∙
+    (λ i. withUnder (withKnown k (withLast (withMulti (k .known) (decided (k .known .multi) support.No)) (c .before .before .before .before .before .none .ensures i))) under.Nothing 0) ∙
+    sym (failed-several k (sym (c .before .before .before .before .is-several .ensures) ∙ c .before .before .before .if1 .taken))
 
 with-requires-2 : tie.Need-with-requires-2
 with-requires-2 c κs = search needs
 
 returns-2 : tie.Need-returns-2
-returns-2 c = let s = (client (c .before .before .before .before .before .args .self)) in c .with2 .ensures ∙ (λ i. withUnder (withKnown s (withLast (s .known) (c .before .before .before .none .ensures i))) under.Nothing 0) ∙ sym (failed-other s (sym (c .before .before .is-several .ensures) ∙ c .before .if1 .left))
+returns-2 c = let s = c .before .before .before .before .before in
+    let k = client (s .args .self) in
+    c .with2 .ensures ∙ (λ i. withUnder (withKnown k (withLast (k .known) (c .before .before .before .none .ensures i))) under.Nothing 0) ∙
+    sym (failed-other k (sym (c .before .before .is-several .ensures) ∙ c .before .if1 .left))
 
 pub failed-spec : {M : Type 1} → statement M
 failed-spec =

@@ -19,13 +19,22 @@ unmoved-requires : tie.Need-unmoved-requires
 unmoved-requires c κs = search needs
 
 returns : tie.Need-returns
-returns c = rw (failure-early (length (c .before .before .before .before .args .out .now)) (client (c .before .before .before .before .args .self)) (isWrite (c .before .before .before .before .args .failed)) (sym (c .before .before .is-awaited .ensures) ∙ not-true _ (c .before .if1 .taken))) (does-lent (does-end (c .unmoved .ensures) refl) (omega arith))
+returns c = let s = c .before .before .before .before in
+    let k = client (s .args .self) in
+    let room = length (s .args .out .now) in
+    let w = isWrite (s .args .failed) in
+    rw (failure-early room k w (sym (c .before .before .is-awaited .ensures) ∙ not-true _ (c .before .if1 .taken))) (does-lent (does-end (c .unmoved .ensures) refl) (omega arith))
 
 unmoved-requires-2 : tie.Need-unmoved-requires-2
 unmoved-requires-2 c κs = search needs
 
 returns-2 : tie.Need-returns-2
-returns-2 c = rw (failure-refused (length (c .before .before .before .before .before .args .out .now)) (client (c .before .before .before .before .before .args .self)) (isWrite (c .before .before .before .before .before .args .failed)) (sym (c .before .before .before .is-awaited .ensures) ∙ not-false _ (c .before .before .if1 .left)) (c .before .if2 .taken)) (does-lent (does-end (c .unmoved2 .ensures) refl) (omega arith))
+returns-2 c = let s = c .before .before .before .before .before in
+    let k = client (s .args .self) in
+    let room = length (s .args .out .now) in
+    let w = isWrite (s .args .failed) in
+    let turn = sym (c .before .before .before .is-awaited .ensures) ∙ not-false _ (c .before .before .if1 .left) in
+    rw (failure-refused room k w turn (c .before .if2 .taken)) (does-lent (does-end (c .unmoved2 .ensures) refl) (omega arith))
 
 is-reset-requires : tie.Need-is-reset-requires
 is-reset-requires c κs = search needs
@@ -34,7 +43,13 @@ fail-requires : tie.Need-fail-requires
 fail-requires c κs = search needs
 
 returns-3 : tie.Need-returns-3
-returns-3 c = rw (failure-ends (length (c .before .before .before .before .before .before .before .args .out .now)) (client (c .before .before .before .before .before .before .before .args .self)) (sym (c .before .before .before .before .before .is-awaited .ensures) ∙ not-false _ (c .before .before .before .before .if1 .left)) (c .before .before .before .if2 .left) (isWrite (c .before .before .before .before .before .before .before .args .failed)) (sym (c .before .before .is-reset .ensures) ∙ not-true _ (c .before .if3 .taken))) (does-lent (does-end (c .fail .ensures) refl) (omega arith))
+returns-3 c = let s = c .before .before .before .before .before .before .before in
+    let k = client (s .args .self) in
+    let room = length (s .args .out .now) in
+    let w = isWrite (s .args .failed) in
+    let turn = sym (c .before .before .before .before .before .is-awaited .ensures) ∙ not-false _ (c .before .before .before .before .if1 .left) in
+    rw (failure-ends room k turn (c .before .before .before .if2 .left) w (sym (c .before .before .is-reset .ensures) ∙ not-true _ (c .before .if3 .taken)))
+    (does-lent (does-end (c .fail .ensures) refl) (omega arith))
 
 enum-told : tie.Need-enum-told
 enum-told c = search needs
@@ -52,10 +67,22 @@ same-length : tie.Need-same-length
 same-length c = search needs
 
 returns-4 : tie.Need-returns-4
-returns-4 c = rw (failure-reset (length (c .before .before .before .before .before .before .before .before .before .before .before .before .args .out .now)) (client (c .before .before .before .before .before .before .before .before .before .before .before .before .args .self)) (sym (c .before .before .before .before .before .before .before .before .before .before .is-awaited .ensures) ∙ not-false _ (c .before .before .before .before .before .before .before .before .before .if1 .left)) (c .before .before .before .before .before .before .before .before .if2 .left) (isWrite (c .before .before .before .before .before .before .before .before .before .before .before .before .args .failed)) (sym (c .before .before .before .before .before .before .before .is-reset .ensures) ∙ not-false _ (c .before .before .before .before .before .before .if3 .left)), ap isWrite (c .before .before .before .before .enum-told .given .1)) (does-lent (c .before .before .send-setup .ensures) (omega arith))
+returns-4 c = let s = c .before .before .before .before .before .before .before .before .before .before .before .before in
+    let k = client (s .args .self) in
+    let room = length (s .args .out .now) in
+    let w = isWrite (s .args .failed) in
+    let turn = sym (c .before .before .before .before .before .before .before .before .before .before .is-awaited .ensures) ∙ not-false _ (c .before .before .before .before .before .before .before .before .before .if1 .left) in
+    rw (failure-reset room k turn (c .before .before .before .before .before .before .before .before .if2 .left) w (sym (c .before .before .before .before .before .before .before .is-reset .ensures) ∙ not-false _ (c .before .before .before .before .before .before .if3 .left)), ap isWrite (c .before .before .before .before .enum-told .given .1))
+    (does-lent (c .before .before .send-setup .ensures) (omega arith))
 
 returns-5 : tie.Need-returns-5
-returns-5 c = rw (failure-reset (length (c .before .before .before .before .before .before .before .before .before .args .out .now)) (client (c .before .before .before .before .before .before .before .before .before .args .self)) (sym (c .before .before .before .before .before .before .before .is-awaited .ensures) ∙ not-false _ (c .before .before .before .before .before .before .if1 .left)) (c .before .before .before .before .before .if2 .left) (isWrite (c .before .before .before .before .before .before .before .before .before .args .failed)) (sym (c .before .before .before .before .is-reset .ensures) ∙ not-false _ (c .before .before .before .if3 .left)), ap isWrite (c .before .enum-told2 .given .1)) (does-lent (record { answer = refl; next = c .moved .ensures; text = put-none _ _ }) (omega arith))
+returns-5 c = let s = c .before .before .before .before .before .before .before .before .before in
+    let k = client (s .args .self) in
+    let room = length (s .args .out .now) in
+    let w = isWrite (s .args .failed) in
+    let turn = sym (c .before .before .before .before .before .before .before .is-awaited .ensures) ∙ not-false _ (c .before .before .before .before .before .before .if1 .left) in
+    rw (failure-reset room k turn (c .before .before .before .before .before .if2 .left) w (sym (c .before .before .before .before .is-reset .ensures) ∙ not-false _ (c .before .before .before .if3 .left)), ap isWrite (c .before .enum-told2 .given .1))
+    (does-lent (record { answer = refl; next = c .moved .ensures; text = put-none _ _ }) (omega arith))
 
 pub failure-spec : {M : Type 1} → statement M
 failure-spec =

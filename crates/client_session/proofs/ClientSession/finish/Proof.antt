@@ -39,7 +39,14 @@ failed-requires : tie.Need-failed-requires
 failed-requires c κs = search needs
 
 returns-3 : tie.Need-returns-3
-returns-3 c = rw (finish-high (length (c .before .before .before .before .before .before .before .before .before .before .args .out .now)) (client (c .before .before .before .before .before .before .before .before .before .before .args .self)) (c .before .before .before .before .before .before .before .before .before .before .args .store .now) (sym (c .before .before .before .before .before .before .before .is-complete .ensures) ∙ not-false _ (c .before .before .before .before .before .before .if1 .left)) (c .before .before .before .before .before .if2 .left) (ap high (reply-in (client (c .before .before .before .before .before .before .before .before .before .before .args .self)) (c .before .before .before .before .before .before .before .before .before .before .args .store .now) (c .before .before .before .before .at-most .result) (c .before .before .before .before .at-most .ensures)) ∙ sym (c .before .before .has-high .ensures) ∙ c .before .if3 .taken)) (λ i. record { answer = refused 9; written = 0; next = c .failed .ensures i; out = c .before .before .before .before .before .before .before .before .before .before .args .out .now })
+returns-3 c = let s = c .before .before .before .before .before .before .before .before .before .before in
+    let k = client (s .args .self) in
+    let room = length (s .args .out .now) in
+    let t = s .args .store .now in
+    let turn = sym (c .before .before .before .before .before .before .before .is-complete .ensures) ∙ not-false _ (c .before .before .before .before .before .before .if1 .left) in
+    let e = reply-in k t (c .before .before .before .before .at-most .result) (c .before .before .before .before .at-most .ensures) in
+    rw (finish-high room k t turn (c .before .before .before .before .before .if2 .left) (ap high e ∙ sym (c .before .before .has-high .ensures) ∙ c .before .if3 .taken))
+    (λ i. record { answer = refused 9; written = 0; next = c .failed .ensures i; out = s .args .out .now })
 
 slice-aggregate-finish-reply : tie.Need-slice-aggregate-finish-reply
 slice-aggregate-finish-reply c = omega (arith, c .before .before .before .before .at-most .ensures, length-take (c .before .before .before .before .at-most .result) (c .before .before .before .before .before .before .before .before .before .before .args .store .now))
@@ -51,7 +58,13 @@ same-length : tie.Need-same-length
 same-length c = search needs
 
 returns-4 : tie.Need-returns-4
-returns-4 c = rw (finish-low (length (c .before .before .before .before .before .before .before .before .before .before .before .before .before .before .args .out .now)) (client (c .before .before .before .before .before .before .before .before .before .before .before .before .before .before .args .self)) (c .before .before .before .before .before .before .before .before .before .before .before .before .before .before .args .store .now) (sym (c .before .before .before .before .before .before .before .before .before .before .before .is-complete .ensures) ∙ not-false _ (c .before .before .before .before .before .before .before .before .before .before .if1 .left)) (c .before .before .before .before .before .before .before .before .before .if2 .left) (ap high (reply-in (client (c .before .before .before .before .before .before .before .before .before .before .before .before .before .before .args .self)) (c .before .before .before .before .before .before .before .before .before .before .before .before .before .before .args .store .now) (c .before .before .before .before .before .before .before .before .at-most .result) (c .before .before .before .before .before .before .before .before .at-most .ensures)) ∙ sym (c .before .before .before .before .before .before .has-high .ensures) ∙ c .before .before .before .before .before .if3 .left), reply-in (client (c .before .before .before .before .before .before .before .before .before .before .before .before .before .before .args .self)) (c .before .before .before .before .before .before .before .before .before .before .before .before .before .before .args .store .now) (c .before .before .before .before .before .before .before .before .at-most .result) (c .before .before .before .before .before .before .before .before .at-most .ensures)) (c .before .before .finish-reply .ensures)
+returns-4 c = let s = c .before .before .before .before .before .before .before .before .before .before .before .before .before .before in
+    let k = client (s .args .self) in
+    let room = length (s .args .out .now) in
+    let t = s .args .store .now in
+    let turn = sym (c .before .before .before .before .before .before .before .before .before .before .before .is-complete .ensures) ∙ not-false _ (c .before .before .before .before .before .before .before .before .before .before .if1 .left) in
+    let e = reply-in k t (c .before .before .before .before .before .before .before .before .at-most .result) (c .before .before .before .before .before .before .before .before .at-most .ensures) in
+    rw (finish-low room k t turn (c .before .before .before .before .before .before .before .before .before .if2 .left) (ap high e ∙ sym (c .before .before .before .before .before .before .has-high .ensures) ∙ c .before .before .before .before .before .if3 .left), e) (c .before .before .finish-reply .ensures)
 
 pub finish-spec : {M : Type 1} → statement M
 finish-spec =

@@ -17,13 +17,21 @@ unstarted-requires : tie.Need-unstarted-requires
 unstarted-requires c κs = search needs
 
 returns : tie.Need-returns
-returns c = rw (init-refused (length (c .before .before .before .before .args .out .now)) (client (c .before .before .before .before .args .self)) 1 (start-early (client (c .before .before .before .before .args .self)) 0 (length (c .before .before .before .before .args .out .now)) (sym (c .before .before .is-nothing .ensures) ∙ not-true _ (c .before .if1 .taken))) refl) (unstarted-lent (c .unstarted .ensures) refl)
+returns c = let s = c .before .before .before .before in
+    let k = client (s .args .self) in
+    let room = length (s .args .out .now) in
+    let busy = sym (c .before .before .is-nothing .ensures) ∙ not-true _ (c .before .if1 .taken) in
+    rw (init-refused room k 1 (start-early k 0 room busy) refl) (unstarted-lent (c .unstarted .ensures) refl)
 
 unstarted-requires-2 : tie.Need-unstarted-requires-2
 unstarted-requires-2 c κs = search needs
 
 returns-2 : tie.Need-returns-2
-returns-2 c = rw (init-refused (length (c .before .before .before .before .before .args .out .now)) (client (c .before .before .before .before .before .args .self)) 6 (start-small (client (c .before .before .before .before .before .args .self)) 0 (length (c .before .before .before .before .before .args .out .now)) (sym (c .before .before .before .is-nothing .ensures) ∙ not-false _ (c .before .before .if1 .left)) refl (c .before .if2 .taken)) refl) (unstarted-lent (c .unstarted2 .ensures) refl)
+returns-2 c = let s = c .before .before .before .before .before in
+    let k = client (s .args .self) in
+    let room = length (s .args .out .now) in
+    let free = sym (c .before .before .before .is-nothing .ensures) ∙ not-false _ (c .before .before .if1 .left) in
+    rw (init-refused room k 6 (start-small k 0 room free refl (c .before .if2 .taken)) refl) (unstarted-lent (c .unstarted2 .ensures) refl)
 
 slice-aggregate-put : tie.Need-slice-aggregate-put
 slice-aggregate-put c = search needs
@@ -38,7 +46,12 @@ same-length : tie.Need-same-length
 same-length c = search needs
 
 returns-3 : tie.Need-returns-3
-returns-3 c = rw (init-starts _ (client (c .before .before .before .before .before .before .before .before .before .before .args .self)) (sym (c .before .before .before .before .before .before .before .before .is-nothing .ensures) ∙ not-false _ (c .before .before .before .before .before .before .before .if1 .left)) (c .before .before .before .before .before .before .if2 .left)) (does-lent (record { answer = refl; next = c .moved .ensures; text = c .before .before .before .put .ensures }) (omega arith))
+returns-3 c = let s = c .before .before .before .before .before .before .before .before .before .before in
+    let k = client (s .args .self) in
+    let room = length (s .args .out .now) in
+    let free = sym (c .before .before .before .before .before .before .before .before .is-nothing .ensures) ∙ not-false _ (c .before .before .before .before .before .before .before .if1 .left) in
+    rw (init-starts room k free (c .before .before .before .before .before .before .if2 .left))
+    (does-lent (record { answer = refl; next = c .moved .ensures; text = c .before .before .before .put .ensures }) (omega arith))
 
 pub init-spec : {M : Type 1} → statement M
 init-spec =

@@ -23,14 +23,26 @@ unstarted-requires c κs = search needs
 
 returns : tie.Need-returns
 unfolding queryPidSays
-returns c = rw (query-refused (client (c .before .before .before .before .args .self)) (newQuery (c .before .before .before .before .args .pid ∷ []) (countOf (c .before .before .before .before .args .count)) false) _ 1 (start-early (client (c .before .before .before .before .args .self)) 0 (length (c .before .before .before .before .args .out .now)) (sym (c .before .before .is-nothing .ensures) ∙ not-true _ (c .before .if1 .taken))) refl) (unstarted-lent (c .unstarted .ensures) refl)
+returns c = let s = c .before .before .before .before in
+    let k = client (s .args .self) in
+    let room = length (s .args .out .now) in
+    let n = countOf (s .args .count) in
+    let q = newQuery (s .args .pid ∷ []) n false in
+    let busy = sym (c .before .before .is-nothing .ensures) ∙ not-true _ (c .before .if1 .taken) in
+    rw (query-refused k q _ 1 (start-early k 0 room busy) refl) (unstarted-lent (c .unstarted .ensures) refl)
 
 unstarted-requires-2 : tie.Need-unstarted-requires-2
 unstarted-requires-2 c κs = search needs
 
 returns-2 : tie.Need-returns-2
 unfolding queryPidSays
-returns-2 c = rw (query-refused (client (c .before .before .before .before .before .args .self)) (newQuery (c .before .before .before .before .before .args .pid ∷ []) (countOf (c .before .before .before .before .before .args .count)) false) _ 6 (start-small (client (c .before .before .before .before .before .args .self)) 0 (length (c .before .before .before .before .before .args .out .now)) (sym (c .before .before .before .is-nothing .ensures) ∙ not-false _ (c .before .before .if1 .left)) refl (c .before .if2 .taken)) refl) (unstarted-lent (c .unstarted2 .ensures) refl)
+returns-2 c = let s = c .before .before .before .before .before in
+    let k = client (s .args .self) in
+    let room = length (s .args .out .now) in
+    let n = countOf (s .args .count) in
+    let q = newQuery (s .args .pid ∷ []) n false in
+    let free = sym (c .before .before .before .is-nothing .ensures) ∙ not-false _ (c .before .before .if1 .left) in
+    rw (query-refused k q _ 6 (start-small k 0 room free refl (c .before .if2 .taken)) refl) (unstarted-lent (c .unstarted2 .ensures) refl)
 
 slice-aggregate-ask : tie.Need-slice-aggregate-ask
 slice-aggregate-ask c = search needs
@@ -42,7 +54,14 @@ same-length : tie.Need-same-length
 same-length c = search needs
 
 returns-3 : tie.Need-returns-3
-returns-3 c = rw (pid-starts (length (c .before .before .before .before .before .before .before .before .before .args .out .now)) (client (c .before .before .before .before .before .before .before .before .before .args .self)) (sym (c .before .before .before .before .before .before .before .is-nothing .ensures) ∙ not-false _ (c .before .before .before .before .before .before .if1 .left)) (c .before .before .before .before .before .if2 .left) (c .before .before .before .before .before .before .before .before .before .args .pid) (countOf (c .before .before .before .before .before .before .before .before .before .args .count))) (does-lent (c .before .before .ask .ensures) (omega (arith, query-text-short (client (c .before .before .before .before .before .before .before .before .before .args .self)) (newQuery (c .before .before .before .before .before .before .before .before .before .args .pid ∷ []) (countOf (c .before .before .before .before .before .before .before .before .before .args .count)) false), query-short (c .before .before .before .before .before .before .before .before .before .args .pid ∷ []) (countOf (c .before .before .before .before .before .before .before .before .before .args .count)) (omega arith))))
+returns-3 c = let s = c .before .before .before .before .before .before .before .before .before in
+    let k = client (s .args .self) in
+    let room = length (s .args .out .now) in
+    let n = countOf (s .args .count) in
+    let q = newQuery (s .args .pid ∷ []) n false in
+    let free = sym (c .before .before .before .before .before .before .before .is-nothing .ensures) ∙ not-false _ (c .before .before .before .before .before .before .if1 .left) in
+    rw (pid-starts room k free (c .before .before .before .before .before .if2 .left) (s .args .pid) n)
+    (does-lent (c .before .before .ask .ensures) (omega (arith, query-text-short k q, query-short (s .args .pid ∷ []) n (omega arith))))
 
 pub query-pid-spec : {M : Type 1} → statement M
 query-pid-spec =
