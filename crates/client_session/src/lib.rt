@@ -157,13 +157,6 @@ impl ClientSession {
         }
     }
 
-    // What is set on the ELM327, or learned about it.
-    pub fn server_state(self) -> ServerState
-        ensures { λ r. ⌜ r ≡ self .server ⌝ }
-    {
-        self.server
-    }
-
     // The session with another state of what is under way, another server state and last query.
     fn with(self, under: Under, got: usize, server: ServerState, last: QueryText) -> ClientSession
         ensures { λ r. ⌜ client r ≡ rebuilt (self .«want_framing») (client self .query) under got server last ⌝ }
@@ -172,14 +165,14 @@ impl ClientSession {
         let pids = self.pids;
         ClientSession {
             want_framing: self.want_framing,
-            server: server,
-            last: last,
-            query: query,
-            pids: pids,
+            server,
+            last,
+            query,
+            pids,
             pids_len: self.pids_len,
             several: self.several,
-            under: under,
-            got: got,
+            under,
+            got,
         }
     }
 
@@ -197,12 +190,13 @@ impl ClientSession {
     {
         let under = self.under;
         let server = self.server;
-        let none = QueryText::none();
+        let mut last = self.last;
+        last.len = 0;
         if is_several(under, self.several) {
             let multi_pid = server.multi_pid;
             let decided = multi_pid.decide(FeatureSupport::No);
-            return self.with(Under::Nothing, 0, server.with_multi_pid(decided), none);
+            return self.with(Under::Nothing, 0, server.with_multi_pid(decided), last);
         }
-        self.with(Under::Nothing, 0, server, none)
+        self.with(Under::Nothing, 0, server, last)
     }
 }

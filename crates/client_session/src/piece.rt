@@ -5,7 +5,6 @@ use crate::PieceAnswer;
 use crate::PieceStep;
 use crate::Under;
 use client_command::FramingEffect;
-use query_text::QueryText;
 use server_state::FeatureSupport;
 ghost use mathlib.Core.Path.{_≡_};
 ghost use mathlib.Core.List.{_++_};
@@ -82,7 +81,7 @@ impl ClientSession {
         ensures { λ r. ⌜ Ends (client self) answer r ⌝ }
     {
         PieceStep {
-            answer: answer,
+            answer,
             written: 0,
             session: self,
         }
@@ -93,7 +92,7 @@ impl ClientSession {
         ensures { λ r. ⌜ Ends (failedClient (client self)) answer r ⌝ }
     {
         PieceStep {
-            answer: answer,
+            answer,
             written: 0,
             session: self.failed(),
         }
@@ -105,10 +104,12 @@ impl ClientSession {
     {
         let written = client_command::put_setup(out, 0, self.want_framing, k);
         let server = self.server;
+        let mut last = self.last;
+        last.len = 0;
         PieceStep {
             answer: PieceAnswer::Sent,
-            written: written,
-            session: self.with(Under::Setup(k), 0, server, QueryText::none()),
+            written,
+            session: self.with(Under::Setup(k), 0, server, last),
         }
     }
 
@@ -147,7 +148,7 @@ impl ClientSession {
             let refused = server.with_repeat(FeatureSupport::No);
             return PieceStep {
                 answer: PieceAnswer::Sent,
-                written: written,
+                written,
                 session: self.with(Under::Query, 0, refused, last),
             };
         }

@@ -33,7 +33,7 @@ impl ClientSession {
         ensures { λ r. ⌜ r ≡ unstarted self answer ⌝ }
     {
         StartStep {
-            answer: answer,
+            answer,
             written: 0,
             session: self,
         }
@@ -53,7 +53,7 @@ impl ClientSession {
         let written = wire::put(out, 0, b"ATZ\r");
         StartStep {
             answer: StartAnswer::Sent,
-            written: written,
+            written,
             session: self.moved(Under::Reset, 0),
         }
     }
@@ -78,10 +78,12 @@ impl ClientSession {
         let written = client_command::put_command(out, 0, command);
         let effect = client_command::framing_effect(command);
         let server = self.server;
+        let mut last = self.last;
+        last.len = 0;
         StartStep {
             answer: StartAnswer::Sent,
-            written: written,
-            session: self.with(Under::Raw(effect), 0, server, QueryText::none()),
+            written,
+            session: self.with(Under::Raw(effect), 0, server, last),
         }
     }
 
@@ -122,7 +124,7 @@ impl ClientSession {
             let written = wire::put_byte(out, 0, b'\r');
             return StartStep {
                 answer: StartAnswer::Sent,
-                written: written,
+                written,
                 session: next.moved(Under::Repeat, 0),
             };
         }
@@ -130,7 +132,7 @@ impl ClientSession {
         let written = query.put_line(out, 0);
         StartStep {
             answer: StartAnswer::Sent,
-            written: written,
+            written,
             session: next.moved(Under::Query, 0),
         }
     }

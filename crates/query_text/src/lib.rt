@@ -32,10 +32,7 @@ impl QueryText {
     {
         let mut bytes = [0u8; 18];
         let len = query::put_query(&mut bytes, 0, pids, count);
-        QueryText {
-            bytes: bytes,
-            len: len,
-        }
+        QueryText { bytes, len }
     }
 
     // How many bytes the text has, whatever len holds.

@@ -128,10 +128,10 @@ impl ServerState {
         let ecu_counts = self.ecu_counts;
         ServerState {
             framing: self.framing,
-            repeat: repeat,
-            multi_pid: multi_pid,
-            pid_lengths: pid_lengths,
-            ecu_counts: ecu_counts,
+            repeat,
+            multi_pid,
+            pid_lengths,
+            ecu_counts,
         }
     }
 
@@ -143,10 +143,10 @@ impl ServerState {
         let ecu_counts = self.ecu_counts;
         ServerState {
             framing: self.framing,
-            repeat: repeat,
-            multi_pid: multi_pid,
-            pid_lengths: pid_lengths,
-            ecu_counts: ecu_counts,
+            repeat,
+            multi_pid,
+            pid_lengths,
+            ecu_counts,
         }
     }
 }

@@ -1,15 +1,16 @@
 -- `client_session::ClientSession::command` meets its contract.
+use mathlib.Core.List.{[]}
 use mathlib.Core.Path.{refl, sym, _∙_}
 use native.Mathlib.Omega.{arith}
 use lib.ListN.{length}
 use borrow.Author.Tests.{not-true, not-false}
 use borrow.Author.Needs.{needs}
 use Rattle.client_command.proofs.CommandLaws.{cr-length}
-use Rattle.client_session.specs.declared.Under.the-variants as under
-use Rattle.client_session.proofs.StartLaws.{command-starts, command-refused, raw-long, raw-high, raw-fine, start-early, start-own, start-small}
-use Rattle.client_session.proofs.StepLaws.{does-lent, unstarted-lent}
-use Rattle.client_session.specs.Session.{client, withUnder, withKnown, withLast}
+use Rattle.client_session.proofs.StartLaws.{command-refused, raw-long, raw-high, raw-fine, start-early, start-own, start-small, command-starts}
 use Rattle.client_session.specs.Start.{rawNumber}
+use Rattle.client_session.proofs.StepLaws.{does-lent, unstarted-lent}
+use Rattle.client_session.specs.declared.Under.the-variants as under
+use Rattle.client_session.specs.Session.{client, withUnder, withKnown, withLast}
 use Rattle.client_session.proofs.ClientSession.command.Statement.{statement}
 use Rattle.client_session.proofs.ClientSession.command.Tie as tie
 
@@ -69,9 +70,6 @@ put-command-requires c κs = search needs
 framing-effect-requires : tie.Need-framing-effect-requires
 framing-effect-requires c κs = search needs
 
-none-requires : tie.Need-none-requires
-none-requires c κs = search needs
-
 with-requires : tie.Need-with-requires
 with-requires c κs = search needs
 
@@ -88,7 +86,7 @@ returns-5 c = let s = c .before .before .before .before .before .before .before 
     (does-lent
     (record {
       answer = refl;
-      next = c .with .ensures ∙ (λ i. withUnder (withKnown k (withLast (k .known) (c .before .none .ensures i))) (under.Raw (c .before .before .before .framing-effect .ensures i)) 0);
+      next = c .with .ensures ∙ (λ i. withUnder (withKnown k (withLast (k .known) [])) (under.Raw (c .before .before .before .framing-effect .ensures i)) 0);
       text = c .before .before .before .before .before .before .put-command .ensures;
     })
     (omega (arith, cr-length t, c .before .before .before .before .before .before .before .before .before .before .before .if2 .left, c .before .before .before .before .before .before .before .before .if4 .left)))
@@ -109,7 +107,6 @@ command-spec =
     returns-4
     put-command-requires
     framing-effect-requires
-    none-requires
     with-requires
     same-length
     returns-5)

@@ -1,18 +1,13 @@
 -- `client_session::ClientSession::failed` meets its contract.
 use mathlib.Core.Path.{sym, ap, _∙_}
 use borrow.Author.Needs.{needs}
-use Rattle.server_state.specs.State.{decided}
-use Rattle.server_state.specs.declared.FeatureSupport.the-variants as support
+use Rattle.client_session.proofs.PieceLaws.{failed-several, failed-other}
 use Rattle.server_state.specs.State as server
 use Rattle.client_session.specs.Steps.{rebuilt}
-use Rattle.client_session.proofs.PieceLaws.{failed-several, failed-other}
 use Rattle.client_session.specs.declared.Under.the-variants as under
-use Rattle.client_session.specs.Session.{client, withUnder, withKnown, withLast, withMulti}
+use Rattle.client_session.specs.Session.{client, withMulti}
 use Rattle.client_session.proofs.ClientSession.failed.Statement.{statement}
 use Rattle.client_session.proofs.ClientSession.failed.Tie as tie
-
-none-requires : tie.Need-none-requires
-none-requires c κs = search needs
 
 is-several-requires : tie.Need-is-several-requires
 is-several-requires c κs = search needs
@@ -30,8 +25,7 @@ returns : tie.Need-returns
 returns c = let s = c .before .before .before .before .before .before .before in
     let k = client (s .args .self) in
     let q = c .before .with-multi-pid .ensures ∙ ap (server.withMulti (s .args .self .server)) (c .before .before .decide .ensures) in
-    c .with .ensures ∙ (λ i. rebuilt (k .known .wanted) (k .query) under.Nothing 0 (q i) (c .before .before .before .before .before .none .result)) ∙
-    (λ i. withUnder (withKnown k (withLast (withMulti (k .known) (decided (k .known .multi) support.No)) (c .before .before .before .before .before .none .ensures i))) under.Nothing 0) ∙
+    c .with .ensures ∙ (λ i. rebuilt (k .known .wanted) (k .query) under.Nothing 0 (q i) (record { bytes = s .args .self .last .bytes; len = 0 })) ∙
     sym (failed-several k (sym (c .before .before .before .before .is-several .ensures) ∙ c .before .before .before .if1 .taken))
 
 with-requires-2 : tie.Need-with-requires-2
@@ -40,14 +34,12 @@ with-requires-2 c κs = search needs
 returns-2 : tie.Need-returns-2
 returns-2 c = let s = c .before .before .before .before .before in
     let k = client (s .args .self) in
-    c .with2 .ensures ∙ (λ i. withUnder (withKnown k (withLast (k .known) (c .before .before .before .none .ensures i))) under.Nothing 0) ∙
-    sym (failed-other k (sym (c .before .before .is-several .ensures) ∙ c .before .if1 .left))
+    c .with2 .ensures ∙ sym (failed-other k (sym (c .before .before .is-several .ensures) ∙ c .before .if1 .left))
 
 pub failed-spec : {M : Type 1} → statement M
 failed-spec =
     tie.close
     (tie.spec
-    none-requires
     is-several-requires
     decide-requires
     with-multi-pid-requires
