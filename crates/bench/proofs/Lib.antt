@@ -1,3 +1,1 @@
-pub mod ReplyBack
-pub mod Given
-pub mod Agree
+pub mod Worked

@@ -1,3 +1,1 @@
-pub mod Script
-pub mod Vehicle
-pub mod Lines
+pub mod Run

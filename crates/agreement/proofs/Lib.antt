@@ -1,0 +1,3 @@
+pub mod ReplyBack
+pub mod Given
+pub mod Agree

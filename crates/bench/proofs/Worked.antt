@@ -1,0 +1,35 @@
+-- Document 01's worked example of a run.
+use mathlib.Core.Path.{_≡_, refl}
+use mathlib.Core.Bool.{true}
+use mathlib.Core.List.{List, [], _∷_}
+use Prim.Native.Nat.{ℕ}
+use Rattle.wire.specs.Answer.{result}
+use Rattle.wire.specs.Text.{ascii, has, high, isSpace, raised}
+use Rattle.hex.specs.Digits.{hexDigit}
+use Rattle.hex.specs.Read.{digit, leading}
+use Rattle.pid.specs.J1979.{j1979}
+use Rattle.pid.specs.Lengths.{mode01Lengths}
+use Rattle.group.specs.Group.{groupBytes}
+use Rattle.line_list.specs.Lines.{lineList}
+use Rattle.value.specs.Values.{valueBytes}
+use Rattle.at_command.specs.Dialect.{atKind}
+use Rattle.reply.specs.Reply.{lineText, replyText}
+use Rattle.server_session.specs.Bytes.{canonical, byteNumber, byteTaken, byteSays, bytesSay}
+use Rattle.server_session.specs.Replies.{answerSays, replySays}
+use Rattle.query.specs.Query.{queryText}
+use Rattle.reply_lines.specs.Lines.{textLines}
+use Rattle.reply_lines.specs.Decode.{textLine, replyLines}
+use Rattle.reply_values.specs.Values.{walked, answerOrder}
+use Rattle.reply_values.specs.Learn.{learnLength}
+use Rattle.client_session.specs.Start.{initSays, queryPidSays, queryPidsSays}
+use Rattle.client_session.specs.Piece.{replyTakes, pieceSays}
+use Rattle.client_session.specs.Finish.{finishSays}
+use Rattle.script.specs.Script.{script}
+use Rattle.exchange.specs.Exchange.{exchanged}
+use Rattle.exchange.specs.Deliver.{pieces, delivered}
+use Rattle.bench.specs.Run.{initialised, part, Run, runSays}
+
+example : runSays true [] 65536 (0x01 ∷ 0x0C ∷ 0x02 ∷ 0x01 ∷ 0x00 ∷ 0x04 ∷ 0x41 ∷ 0x0C ∷ 0x1A ∷ 0xF8 ∷ []) ≡
+    record { answer = result tt; parts = 0x01 ∷ 0x0C ∷ 0xE9 ∷ 0x0F ∷ 0x04 ∷ 0x41 ∷ 0x0C ∷ 0x1A ∷ 0xF8 ∷ []; handed = ascii "010C1" ∷ [] }
+unfolding has high isSpace raised hexDigit digit leading j1979 mode01Lengths groupBytes lineList valueBytes atKind lineText replyText canonical byteNumber byteTaken byteSays bytesSay answerSays replySays queryText textLines textLine replyLines walked answerOrder learnLength initSays queryPidSays queryPidsSays replyTakes pieceSays finishSays script exchanged pieces delivered initialised part runSays
+example = refl
