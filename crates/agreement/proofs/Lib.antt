@@ -1,3 +1,5 @@
 pub mod ReplyBack
 pub mod Given
 pub mod Agree
+pub mod Told
+pub mod Agreement

@@ -1,0 +1,103 @@
+-- Demand 3: two runs have equal records exactly when the two vehicles gave the same.
+use mathlib.Core.Path.{_≡_, refl, sym, ap, subst, _∙_}
+use mathlib.Core.List.{List, [], _∷_, map}
+use mathlib.Core.Logic.{_↔_}
+use Prim.Native.Nat.{ℕ, zero, suc, _≤_, min}
+use native.Mathlib.Omega.{arith}
+use lib.ListN.{length, take, length-take}
+use lib.Seq.{sets, take-all}
+use Rattle.wire.specs.Answer.{Answer, result}
+use Rattle.wire.specs.Put.{Put}
+use Rattle.wire.proofs.PutLaws.{put-front}
+use Rattle.wire.proofs.All.{Bytes, all-from}
+use Rattle.group.specs.Group.{Read, got}
+use Rattle.value.specs.Values.{Value, recordBytes, readRecord}
+use Rattle.value.specs.Same.{SameQueries, SameReadings, SameRecord}
+use Rattle.value.proofs.RecordLaws.{RecordFits, record-back, same-record}
+use Rattle.script.specs.Script.{Query, script}
+use Rattle.bench.specs.Run.{Run, Recorded, runAnswer}
+use Rattle.agreement.specs.Demand.{givens, commands, fitting, partsIn, firstOf, SameFirst, Drive, hireRecord, standing, comesTo, EveryFits, Holds, Agreement}
+use Rattle.agreement.proofs.Told.{told, fitting-few, told-parts, told-handed, told-inside, told-whole}
+
+-- ---- the first n of some lists
+
+length-givens : (qs : List Query) → length (givens qs) ≡ length qs
+length-givens [] = refl
+length-givens (q ∷ qs) = ap suc (length-givens qs)
+
+fits-first : (n : ℕ) (vss : List (List Value)) → RecordFits vss → RecordFits (take n vss)
+fits-first zero vss h = tt
+fits-first (suc n) [] h = tt
+fits-first (suc n) (vs ∷ vss) h = (h .0, fits-first n vss (h .1))
+
+take-first : (n k : ℕ) (vss : List (List Value)) → n ≤ k → take n (take k vss) ≡ take n vss
+take-first zero k vss h = refl
+take-first (suc n) zero vss h = absurd (omega arith)
+take-first (suc n) (suc k) [] h = refl
+take-first (suc n) (suc k) (vs ∷ vss) h = ap (λ wss. vs ∷ wss) (take-first n k vss (omega arith))
+
+take-whole : (vss : List (List Value)) → take (length vss) vss ≡ vss
+take-whole [] = refl
+take-whole (vs ∷ vss) = ap (λ wss. vs ∷ wss) (take-whole vss)
+
+-- two records, by the first n queries
+same-first : (n : ℕ) (vss wss : List (List Value)) → RecordFits vss → RecordFits wss → SameFirst n (recordBytes vss) (recordBytes wss) ↔ SameQueries (take n vss) (take n wss)
+same-first n vss wss h i = rw (record-back vss h, record-back wss i) ((λ q. q), (λ q. q))
+
+-- ---- one run
+
+module _ (ran : (d : Drive) → comesTo d ≡ told (length (d .lentBuffer)) (d .queries)) (fits : (d : Drive) → RecordFits (givens (d .queries))) where
+  module _ (d : Drive) where
+    abbrev room : ℕ
+    room = length (d .lentBuffer)
+
+    abbrev count : ℕ
+    count = fitting room (d .queries)
+
+    abbrev parts : List (List Value)
+    parts = take count (givens (d .queries))
+
+    parts-fit : RecordFits parts
+    parts-fit = fits-first count (givens (d .queries)) (fits d)
+
+    count-parts : length parts ≡ count
+    count-parts = omega (arith, length-take count (givens (d .queries)), length-givens (d .queries), fitting-few room (d .queries))
+
+    -- what stands in the buffer are the parts of the queries that fit
+    record-is : hireRecord d ≡ recordBytes parts
+    record-is =
+        let w : d .run .written ≡ length (comesTo d .parts) = ap (λ (x : Recorded). x .written) (d .ran) in
+        let b : d .buffer ≡ sets (d .lentBuffer) 0 (comesTo d .parts) = ap (λ (x : Recorded). x .out) (d .ran) in
+        let inside : length (comesTo d .parts) ≤ room = rw (ran d) (told-inside room (d .queries)) in
+        let put : Put (d .lentBuffer) 0 (comesTo d .parts) (d .run .written) (d .buffer) = record { next = omega arith; bytes = b } in
+        put-front put ∙ take-all room (comesTo d .parts) inside ∙ ap (λ (r : Run). r .parts) (ran d) ∙ told-parts room (d .queries)
+
+    stand-is : standing d ≡ count
+    stand-is = ap (λ s. partsIn (readRecord s)) record-is ∙ ap partsIn (record-back parts parts-fit) ∙ count-parts
+
+    answer-is : runAnswer (d .run .answer) ≡ told room (d .queries) .answer
+    answer-is = ap (λ (x : Recorded). x .answer) (d .ran) ∙ ap (λ (r : Run). r .answer) (ran d)
+
+    holds : Holds d
+    holds = record {
+      stand = stand-is;
+      whole = λ e. answer-is ∙ told-whole room (d .queries) e;
+      handed = ap (λ (r : Run). r .handed) (ran d) ∙ told-handed room (d .queries) ∙ ap (λ n. take (suc n) (commands (d .queries))) (sym stand-is);
+    }
+
+    whole-parts : EveryFits d → parts ≡ givens (d .queries)
+    whole-parts e = ap (λ n. take n (givens (d .queries))) (e ∙ sym (length-givens (d .queries))) ∙ take-whole (givens (d .queries))
+
+  -- ---- two runs
+
+  pub agreement : (d e : Drive) → Agreement d e
+  agreement d e = record {
+    one = holds d;
+    two = holds e;
+    equal = λ f g.
+        rw (record-is d, record-is e, whole-parts d f, whole-parts e g) (same-record (givens (d .queries)) (givens (e .queries)) (fits d) (fits e));
+    before = λ n h i.
+        let first₁ = take-first n (count d) (givens (d .queries)) (omega (arith, stand-is d)) in
+        let first₂ = take-first n (count e) (givens (e .queries)) (omega (arith, stand-is e)) in
+        rw (record-is d, record-is e, ← first₁, ← first₂) (same-first n (parts d) (parts e) (parts-fit d) (parts-fit e));
+  }
