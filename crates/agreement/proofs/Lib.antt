@@ -1,5 +1,8 @@
 pub mod ReplyBack
 pub mod Given
 pub mod Agree
+pub mod Heard
+pub mod Arrive
+pub mod Started
 pub mod Told
 pub mod Agreement
