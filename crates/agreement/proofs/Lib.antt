@@ -1,3 +1,4 @@
 pub mod ReplyBack
 pub mod Given
 pub mod Agree
+pub mod Arrive
