@@ -2,3 +2,4 @@ pub mod ReplyBack
 pub mod Given
 pub mod Agree
 pub mod Arrive
+pub mod Finished
