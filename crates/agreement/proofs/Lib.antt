@@ -3,6 +3,7 @@ pub mod Given
 pub mod Agree
 pub mod Heard
 pub mod Arrive
+pub mod Finished
 pub mod Started
 pub mod Told
 pub mod Agreement

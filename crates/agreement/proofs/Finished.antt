@@ -1,0 +1,121 @@
+-- What the bench run's finish of a complete reply comes to: no number, and for the reply to a run's lines what the vehicle gave.
+use mathlib.Core.Path.{_≡_, refl, sym, ap, _∙_}
+use mathlib.Core.Bool.{Bool, true, false}
+use mathlib.Core.List.{List, [], _∷_, map}
+use Prim.Native.Nat.{ℕ, _≤_}
+use native.Mathlib.Omega.{arith}
+use lib.ListN.{length, take, length-take}
+use borrow.Author.Tests.{le-ltb}
+use Rattle.wire.specs.Answer.{result}
+use Rattle.wire.specs.Text.{high}
+use Rattle.wire.proofs.All.{Bytes}
+use Rattle.line_list.specs.Lines.{Line, AllFit}
+use Rattle.value.specs.Values.{Value, valuesBytes}
+use Rattle.value.specs.Same.{SameValues}
+use Rattle.reply.specs.Reply.{replyText}
+use Rattle.reply.proofs.ByteLaws.{reply-low}
+use Rattle.reply_lines.specs.Decode.{replyLines}
+use Rattle.reply_values.specs.Values.{valuesOf, answerOrder}
+use Rattle.reply_values.specs.Learn.{lengthsAfter}
+use Rattle.reply_values.proofs.SizeLaws.{reply-size}
+use Rattle.client_session.specs.declared.Under.the-variants as under
+use Rattle.client_session.specs.Session.{Client, Said}
+use Rattle.client_session.specs.Piece.{replyIn}
+use Rattle.client_session.specs.Finish.{isComplete, finished, finishSays}
+use Rattle.client_session.proofs.FinishLaws.{finish-low}
+use Rattle.bench.specs.Run.{valuesRoom}
+use Rattle.agreement.specs.Vehicle.{given}
+use Rattle.agreement.specs.Lines.{GoodLines}
+use Rattle.agreement.proofs.ReplyBack.{known, AllBytes, reply-back}
+use Rattle.agreement.proofs.Given.{given-values}
+use Rattle.agreement.proofs.Agree.{Agree, values-agree, learn-agree}
+
+-- Values in another order: as many, with as many bytes, and the same PID by PID.
+pub record Reordered (vs ws : List Value) : Type 0 where
+  pub count : length ws ≡ length vs
+  pub size : length (valuesBytes ws) ≡ length (valuesBytes vs)
+  pub pids : SameValues ws vs
+
+-- the order of an answer is such a one
+pub answer-reordered : (vs : List Value) → Reordered vs (answerOrder vs)
+unfolding answerOrder
+answer-reordered vs = record { count = refl; size = refl; pids = λ p. refl }
+
+-- ---- any complete reply
+
+-- the lengths that a session knows after its query was answered by lines, and a finish with the values that it then finds in them
+abbrev pub lengthsThen : Client → List Line → List ℕ
+lengthsThen c ls = lengthsAfter (c .query .several) (c .query .pids) (c .known .lengths) ls
+
+abbrev pub finishedWith : Client → List Line → Said ℕ
+finishedWith c ls = finished c (lengthsThen c ls) (valuesOf (lengthsThen c ls) ls)
+
+-- The query of a session c is over, and the next session n keeps what does not depend on the reply.
+pub record Over (c n : Client) : Type 0 where
+  pub under : n .under ≡ under.Nothing
+  pub got : n .got ≡ 0
+  pub query : n .query ≡ c .query
+  pub wanted : n .known .wanted ≡ c .known .wanted
+  pub framing : n .known .framing ≡ c .known .framing
+  pub repeat : n .known .repeat ≡ c .known .repeat
+  pub last : n .known .last ≡ c .known .last
+
+over-with : (c : Client) (lengths : List ℕ) (vs : List Value) → Over c (finished c lengths vs .next)
+over-with c lengths vs = record { under = refl; got = refl; query = refl; wanted = refl; framing = refl; repeat = refl; last = refl }
+
+module _ (c : Client) (store : List ℕ) (turn : isComplete (c .under) ≡ true) (size : 4096 ≤ length store) (low : high (replyIn c store) ≡ false) where
+  -- a reply has at most 4,096 bytes below 80 hex, so its values fit
+  pub finish-fits : finishSays valuesRoom c store ≡ finishedWith c (replyLines (c .known .framing) (replyIn c store))
+  finish-fits =
+      let reply = replyIn c store in
+      let ls = replyLines (c .known .framing) reply in
+      let short : length reply ≤ 4096 = omega (arith, length-take (c .got) (take 4096 store), length-take 4096 store) in
+      let vs = valuesOf (lengthsThen c ls) ls in
+      let fits = reply-size (lengthsThen c ls) (c .known .framing) reply short in
+      finish-low valuesRoom c store turn size low ∙
+      rw (le-ltb valuesRoom (length (valuesBytes (answerOrder vs))) (omega (arith, answer-reordered vs .size)))
+
+  -- so the finish gets no number
+  pub finish-any : (n : ℕ) × (finishSays valuesRoom c store .answer ≡ result n) × Over c (finishSays valuesRoom c store .next)
+  finish-any =
+      let ls = replyLines (c .known .framing) (replyIn c store) in
+      let lengths = lengthsThen c ls in
+      rw finish-fits (length (valuesOf lengths ls), refl, over-with c lengths (valuesOf lengths ls))
+
+-- ---- the reply to a run's lines
+
+-- A finish f of the query of a session c with the values vs, in a run with the lengths L.
+pub record Gave (L : ℕ → ℕ) (c : Client) (vs : List Value) (f : Said ℕ) : Type 0 where
+  pub answer : f .answer ≡ result (length vs)
+  pub text : f .text ≡ valuesBytes (answerOrder vs)
+  pub over : Over c (f .next)
+  pub agree : Agree L (f .next .known .lengths)
+
+known-good : (L : ℕ → ℕ) (ls : List Line) → GoodLines L ls → GoodLines L (map known ls)
+known-good L [] g = g
+known-good L (l ∷ ls) g = (g .0, known-good L ls (g .1))
+
+known-bytes : (ls : List Line) → AllBytes ls → AllBytes (map known ls)
+known-bytes [] b = b
+known-bytes (l ∷ ls) b = (b .0, known-bytes ls (b .1))
+
+after-agree : (L : ℕ → ℕ) (several : Bool) (pids lengths : List ℕ) (ls : List Line) → Bytes pids → Agree L lengths → GoodLines L ls →
+    Agree L (lengthsAfter several pids lengths ls)
+after-agree L true pids lengths ls b a g = a
+after-agree L false [] lengths ls b a g = a
+after-agree L false (p ∷ ps) lengths ls b a g = learn-agree L lengths p ls (b .0) a g
+
+-- the client's values are what the vehicle gave, and its lengths still agree with the run's
+pub finish-given : (L : ℕ → ℕ) (c : Client) (store : List ℕ) (l : Line) (ls : List Line) → isComplete (c .under) ≡ true → 4096 ≤ length store → c .known .framing ≡ true →
+    replyIn c store ≡ replyText false false true (l ∷ ls) → AllFit (l ∷ ls) → AllBytes (l ∷ ls) → GoodLines L (l ∷ ls) → Bytes (c .query .pids) → Agree L (c .known .lengths) →
+    Gave L c (given (l ∷ ls)) (finishSays valuesRoom c store)
+finish-given L c store l ls turn size framed r fit bytes good pids a =
+    let back : replyLines (c .known .framing) (replyIn c store) ≡ map known (l ∷ ls) = (λ i. replyLines (framed i) (r i)) ∙ reply-back l ls fit bytes in
+    let good′ = known-good L (l ∷ ls) good in
+    let lengths = lengthsThen c (map known (l ∷ ls)) in
+    let a′ : Agree L lengths = after-agree L (c .query .several) (c .query .pids) (c .known .lengths) (map known (l ∷ ls)) pids a good′ in
+    let found : valuesOf lengths (map known (l ∷ ls)) ≡ given (l ∷ ls) =
+    values-agree L lengths a′ (map known (l ∷ ls)) good′ (known-bytes (l ∷ ls) bytes) ∙ sym (given-values (l ∷ ls) bytes) in
+    let says : finishSays valuesRoom c store ≡ finished c lengths (given (l ∷ ls)) =
+    finish-fits c store turn size (ap high r ∙ reply-low false false true (l ∷ ls)) ∙ ap (finishedWith c) back ∙ ap (finished c lengths) found in
+    rw says (record { answer = refl; text = refl; over = over-with c lengths (given (l ∷ ls)); agree = a′ })
