@@ -5,5 +5,6 @@ pub mod Heard
 pub mod Arrive
 pub mod Finished
 pub mod Started
+pub mod Asked
 pub mod Told
 pub mod Agreement

@@ -29,15 +29,15 @@ use Rattle.agreement.proofs.Arrive.{arrives}
 
 -- a command whose reply is plain, and ends with its prompt: the client comes out as it completes the whole reply
 module _ (b : Bench) (command list : List ℕ) (handed : List (List ℕ)) (x : Exchanged) (body : List ℕ) where
-  abbrev reply : Said Progress
-  reply = completed (b .client .under) (b .client) (prompted body)
+  abbrev pub settledReply : Said Progress
+  settledReply = completed (b .client .under) (b .client) (prompted body)
 
-  abbrev settled : Turn
+  abbrev pub settled : Turn
   settled = record {
-    answer = reply .answer;
-    text = reply .text;
+    answer = settledReply .answer;
+    text = settledReply .text;
     bench = record {
-      client = reply .next;
+      client = settledReply .next;
       store = sets (b .store) 0 (prompted body);
       server = x .next;
       lengths = delivered sendRoom (b .client) (b .store) (b .lengths) (prompted body) .lengths;
