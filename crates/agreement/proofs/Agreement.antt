@@ -12,18 +12,21 @@ use Rattle.wire.proofs.PutLaws.{put-front}
 use Rattle.wire.proofs.All.{Bytes, all-from}
 use Rattle.group.specs.Group.{Read, got}
 use Rattle.value.specs.Values.{Value, recordBytes, readRecord}
-use Rattle.value.specs.Same.{SameQueries, SameReadings, SameRecord}
+use Rattle.value.specs.Same.{SameValues, SameQueries, SameRecord}
 use Rattle.value.proofs.RecordLaws.{RecordFits, record-back, same-record}
-use Rattle.script.specs.Script.{Query, script}
+use Rattle.reply_values.specs.Values.{answerOrder}
+use Rattle.script.specs.Script.{Query}
 use Rattle.bench.specs.Run.{Run, Recorded, runAnswer}
+use Rattle.agreement.specs.Vehicle.{given}
 use Rattle.agreement.specs.Demand.{givens, commands, fitting, partsIn, firstOf, SameFirst, Drive, hireRecord, standing, comesTo, EveryFits, Holds, Agreement}
-use Rattle.agreement.proofs.Told.{told, fitting-few, told-parts, told-handed, told-inside, told-whole}
+use Rattle.agreement.proofs.Finished.{answer-reordered}
+use Rattle.agreement.proofs.Told.{ordered, told, fitting-few, told-parts, told-handed, told-inside, told-whole}
 
 -- ---- the first n of some lists
 
-length-givens : (qs : List Query) → length (givens qs) ≡ length qs
-length-givens [] = refl
-length-givens (q ∷ qs) = ap suc (length-givens qs)
+length-ordered : (qs : List Query) → length (ordered qs) ≡ length qs
+length-ordered [] = refl
+length-ordered (q ∷ qs) = ap suc (length-ordered qs)
 
 fits-first : (n : ℕ) (vss : List (List Value)) → RecordFits vss → RecordFits (take n vss)
 fits-first zero vss h = tt
@@ -44,9 +47,39 @@ take-whole (vs ∷ vss) = ap (λ wss. vs ∷ wss) (take-whole vss)
 same-first : (n : ℕ) (vss wss : List (List Value)) → RecordFits vss → RecordFits wss → SameFirst n (recordBytes vss) (recordBytes wss) ↔ SameQueries (take n vss) (take n wss)
 same-first n vss wss h i = rw (record-back vss h, record-back wss i) ((λ q. q), (λ q. q))
 
+-- the order of an answer does not matter
+iff-then : {A B C : Type 0} → A ↔ B → B ↔ C → A ↔ C
+iff-then f g = ((λ a. g .0 (f .0 a)), (λ c. f .1 (g .1 c)))
+
+pids-ordered : (vs ws : List Value) → SameValues (answerOrder vs) (answerOrder ws) ↔ SameValues vs ws
+pids-ordered vs ws =
+    let o = answer-reordered vs .pids in
+    let u = answer-reordered ws .pids in
+    ((λ h p. sym (o p) ∙ h p ∙ u p), (λ h p. o p ∙ h p ∙ sym (u p)))
+
+same-ordered : (qs rs : List Query) → SameQueries (ordered qs) (ordered rs) ↔ SameQueries (givens qs) (givens rs)
+same-ordered [] [] = ((λ h. h), (λ h. h))
+same-ordered [] (r ∷ rs) = ((λ h. h), (λ h. h))
+same-ordered (q ∷ qs) [] = ((λ h. h), (λ h. h))
+same-ordered (q ∷ qs) (r ∷ rs) =
+    let one = pids-ordered (given (q .lines)) (given (r .lines)) in
+    let rest = same-ordered qs rs in
+    ((λ h. (one .0 (h .0), rest .0 (h .1))), (λ h. (one .1 (h .0), rest .1 (h .1))))
+
+take-map : (n : ℕ) (f : Query → List Value) (qs : List Query) → take n (map f qs) ≡ map f (take n qs)
+take-map zero f qs = refl
+take-map (suc n) f [] = refl
+take-map (suc n) f (q ∷ qs) = ap (λ vss. f q ∷ vss) (take-map n f qs)
+
+same-taken : (n : ℕ) (qs rs : List Query) → SameQueries (take n (ordered qs)) (take n (ordered rs)) ↔ SameQueries (take n (givens qs)) (take n (givens rs))
+same-taken n qs rs =
+    let o : (Query → List Value) = λ (q : Query). answerOrder (given (q .lines)) in
+    let g : (Query → List Value) = λ (q : Query). given (q .lines) in
+    rw (take-map n o qs, take-map n o rs, take-map n g qs, take-map n g rs) (same-ordered (take n qs) (take n rs))
+
 -- ---- one run
 
-module _ (ran : (d : Drive) → comesTo d ≡ told (length (d .lentBuffer)) (d .queries)) (fits : (d : Drive) → RecordFits (givens (d .queries))) where
+module _ (ran : (d : Drive) → comesTo d ≡ told (length (d .lentBuffer)) (d .queries)) (fits : (d : Drive) → RecordFits (ordered (d .queries))) where
   module _ (d : Drive) where
     abbrev room : ℕ
     room = length (d .lentBuffer)
@@ -55,13 +88,13 @@ module _ (ran : (d : Drive) → comesTo d ≡ told (length (d .lentBuffer)) (d .
     count = fitting room (d .queries)
 
     abbrev parts : List (List Value)
-    parts = take count (givens (d .queries))
+    parts = take count (ordered (d .queries))
 
     parts-fit : RecordFits parts
-    parts-fit = fits-first count (givens (d .queries)) (fits d)
+    parts-fit = fits-first count (ordered (d .queries)) (fits d)
 
     count-parts : length parts ≡ count
-    count-parts = omega (arith, length-take count (givens (d .queries)), length-givens (d .queries), fitting-few room (d .queries))
+    count-parts = omega (arith, length-take count (ordered (d .queries)), length-ordered (d .queries), fitting-few room (d .queries))
 
     -- what stands in the buffer are the parts of the queries that fit
     record-is : hireRecord d ≡ recordBytes parts
@@ -85,19 +118,21 @@ module _ (ran : (d : Drive) → comesTo d ≡ told (length (d .lentBuffer)) (d .
       handed = ap (λ (r : Run). r .handed) (ran d) ∙ told-handed room (d .queries) ∙ ap (λ n. take (suc n) (commands (d .queries))) (sym stand-is);
     }
 
-    whole-parts : EveryFits d → parts ≡ givens (d .queries)
-    whole-parts e = ap (λ n. take n (givens (d .queries))) (e ∙ sym (length-givens (d .queries))) ∙ take-whole (givens (d .queries))
+    whole-parts : EveryFits d → parts ≡ ordered (d .queries)
+    whole-parts e = ap (λ n. take n (ordered (d .queries))) (e ∙ sym (length-ordered (d .queries))) ∙ take-whole (ordered (d .queries))
 
-  -- ---- two runs
+    -- ---- two runs
 
   pub agreement : (d e : Drive) → Agreement d e
   agreement d e = record {
     one = holds d;
     two = holds e;
     equal = λ f g.
-        rw (record-is d, record-is e, whole-parts d f, whole-parts e g) (same-record (givens (d .queries)) (givens (e .queries)) (fits d) (fits e));
+        rw (record-is d, record-is e, whole-parts d f, whole-parts e g)
+        (iff-then (same-record (ordered (d .queries)) (ordered (e .queries)) (fits d) (fits e)) (same-ordered (d .queries) (e .queries)));
     before = λ n h i.
-        let first₁ = take-first n (count d) (givens (d .queries)) (omega (arith, stand-is d)) in
-        let first₂ = take-first n (count e) (givens (e .queries)) (omega (arith, stand-is e)) in
-        rw (record-is d, record-is e, ← first₁, ← first₂) (same-first n (parts d) (parts e) (parts-fit d) (parts-fit e));
+        let first₁ = take-first n (count d) (ordered (d .queries)) (omega (arith, stand-is d)) in
+        let first₂ = take-first n (count e) (ordered (e .queries)) (omega (arith, stand-is e)) in
+        rw (record-is d, record-is e)
+        (iff-then (same-first n (parts d) (parts e) (parts-fit d) (parts-fit e)) (rw (first₁, first₂) (same-taken n (d .queries) (e .queries))));
   }

@@ -12,6 +12,7 @@ use Rattle.wire.proofs.All.{Bytes}
 use Rattle.line_list.specs.Lines.{Line, AllFit}
 use Rattle.value.specs.Values.{Value, valuesBytes}
 use Rattle.value.specs.Same.{SameValues}
+use Rattle.value.proofs.RecordLaws.{ValuesFit}
 use Rattle.reply.specs.Reply.{replyText}
 use Rattle.reply.proofs.ByteLaws.{reply-low}
 use Rattle.reply_lines.specs.Decode.{replyLines}
@@ -30,16 +31,17 @@ use Rattle.agreement.proofs.ReplyBack.{known, AllBytes, reply-back}
 use Rattle.agreement.proofs.Given.{given-values}
 use Rattle.agreement.proofs.Agree.{Agree, values-agree, learn-agree}
 
--- Values in another order: as many, with as many bytes, and the same PID by PID.
+-- Values in another order: as many, with as many bytes, the same PID by PID, and each fit for a record.
 pub record Reordered (vs ws : List Value) : Type 0 where
   pub count : length ws ≡ length vs
   pub size : length (valuesBytes ws) ≡ length (valuesBytes vs)
   pub pids : SameValues ws vs
+  pub fit : ValuesFit vs → ValuesFit ws
 
 -- the order of an answer is such a one
 pub answer-reordered : (vs : List Value) → Reordered vs (answerOrder vs)
 unfolding answerOrder
-answer-reordered vs = record { count = refl; size = refl; pids = λ p. refl }
+answer-reordered vs = record { count = refl; size = refl; pids = λ p. refl; fit = λ h. h }
 
 -- ---- any complete reply
 

@@ -7,4 +7,5 @@ pub mod Finished
 pub mod Started
 pub mod Asked
 pub mod Told
+pub mod Ran
 pub mod Agreement

@@ -12,17 +12,36 @@ use Rattle.wire.specs.Answer.{Answer, result, refused}
 use Rattle.wire.proofs.Cases.{by-test, from-no}
 use Rattle.pid.specs.J1979.{j1979}
 use Rattle.line_list.specs.Lines.{Line, AllFit}
-use Rattle.value.specs.Values.{Value, value, partBytes, recordBytes}
+use Rattle.group.specs.Group.{groupBytes}
+use Rattle.value.specs.Values.{Value, valuesBytes, partBytes, recordBytes}
 use Rattle.value.proofs.RecordLaws.{ValuesFit, RecordFits}
 use Rattle.reply.specs.Reply.{replyText}
+use Rattle.reply_values.specs.Values.{answerOrder}
 use Rattle.script.specs.Script.{Query}
 use Rattle.bench.specs.Run.{Run, ended, after}
 use Rattle.agreement.specs.Vehicle.{givenEcu, owed, takes, givenLine, given}
-use Rattle.agreement.specs.Demand.{givens, commandOf, commands, fitting}
+use Rattle.agreement.specs.Demand.{commandOf, commands, fitting}
+use Rattle.agreement.proofs.Finished.{answer-reordered}
+
+-- what a vehicle gave, in the order of an answer
+abbrev pub ordered : List Query → List (List Value)
+ordered qs = map (λ (q : Query). answerOrder (given (q .lines))) qs
 
 -- the part of a query
 abbrev pub givenPart : Query → List ℕ
-givenPart q = partBytes (given (q .lines))
+givenPart q = partBytes (answerOrder (given (q .lines)))
+
+part-size : (q : Query) → length (partBytes (given (q .lines))) ≡ length (givenPart q)
+part-size q =
+    let vs = given (q .lines) in
+    let o = answer-reordered vs in
+    omega (
+      arith,
+      length-append (groupBytes (length vs)) (valuesBytes vs),
+      length-append (groupBytes (length (answerOrder vs))) (valuesBytes (answerOrder vs)),
+      ap (λ n. length (groupBytes n)) (o .count),
+      o .size,
+    )
 
 abbrev pub told : ℕ → List Query → Run
 told room [] = record { answer = result tt; parts = []; handed = [] }
@@ -34,7 +53,7 @@ told room (q ∷ qs) =
 -- A run's fields, by how many queries fit.
 record Fields (k : ℕ) (room : ℕ) (qs : List Query) (r : Run) : Type 0 where
   few : k ≤ length qs
-  parts : r .parts ≡ recordBytes (take k (givens qs))
+  parts : r .parts ≡ recordBytes (take k (ordered qs))
   handed : r .handed ≡ take (suc k) (commands qs)
   inside : length (r .parts) ≤ room
   whole : k ≡ length qs → r .answer ≡ result tt
@@ -56,19 +75,20 @@ told-fields : (room : ℕ) (qs : List Query) → Fields (fitting room qs) room q
 told-fields room [] = record { few = omega arith; parts = refl; handed = refl; inside = omega arith; whole = λ e. refl }
 told-fields room (q ∷ qs) =
     let rest = told-fields (room - length (givenPart q)) qs in
-    by-test (ltb 4096 (length (replyText false false true (q .lines))))
+    rw (part-size q)
+    (by-test (ltb 4096 (length (replyText false false true (q .lines))))
     (λ e. rw e (none-fits 8 room q qs))
     (λ e.
     rw e
     (by-test (ltb room (length (givenPart q)))
     (λ f. rw f (none-fits 6 room q qs))
-    (λ f. let h = ltb-false room (length (givenPart q)) f in rw f (one-fits _ room q qs _ h rest))))
+    (λ f. let h = ltb-false room (length (givenPart q)) f in rw f (one-fits _ room q qs _ h rest)))))
 
 module _ (room : ℕ) (qs : List Query) where
   pub fitting-few : fitting room qs ≤ length qs
   fitting-few = told-fields room qs .few
 
-  pub told-parts : told room qs .parts ≡ recordBytes (take (fitting room qs) (givens qs))
+  pub told-parts : told room qs .parts ≡ recordBytes (take (fitting room qs) (ordered qs))
   told-parts = told-fields room qs .parts
 
   pub told-handed : told room qs .handed ≡ take (suc (fitting room qs)) (commands qs)
