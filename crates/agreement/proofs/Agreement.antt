@@ -120,7 +120,6 @@ module _ (ran : (d : Drive) → comesTo d ≡ told (length (d .lentBuffer)) (d .
 
     whole-parts : EveryFits d → parts ≡ ordered (d .queries)
     whole-parts e = ap (λ n. take n (ordered (d .queries))) (e ∙ sym (length-ordered (d .queries))) ∙ take-whole (ordered (d .queries))
-
     -- ---- two runs
 
   pub agreement : (d e : Drive) → Agreement d e

@@ -156,17 +156,17 @@ module _ (L : ℕ → ℕ) (pids : List ℕ) (count : ℕ) (l : Line) (ls : List
       bench = record { client = asks k u; store = store; server = quiet server; lengths = ks }
 
       module _ (e : exchanged replyRoom (quiet server) command list ≡ handing) (w : Awaiting sendRoom (asks k u) store []) where
-        fails : 4096 < length reply → Fails query (finished (onward 1 (turn bench command [] list) list))
+        fails : 4096 < length reply → Fails query (finished (onward 1 (turn bench command list) list))
         fails h =
-            let t = turn bench command [] list in
+            let t = turn bench command list in
             stops (t .answer) (t .text) (t .bench) (t .handed)
             (ap (λ (x : Exchanged). delivered sendRoom (asks k u) store ks (x .text) .said .answer) e ∙ reply-overflows (asks k u) store ks w (l ∷ ls) h)
             (ap (λ (x : Exchanged). x .handed) e)
 
-        comes : length reply ≤ 4096 → onward 1 (turn bench command [] list) list ≡ onward 1 (settled bench command list [] handing (replyBody false false true (l ∷ ls))) list
+        comes : length reply ≤ 4096 → onward 1 (turn bench command list) list ≡ onward 1 (settled bench command list handing (replyBody false false true (l ∷ ls))) list
         comes h =
             ap (λ (t : Turn). onward 1 t list)
-            (settles bench command list [] handing (replyBody false false true (l ∷ ls)) e (reply-prompt false false true (l ∷ ls)) w (plainly (l ∷ ls) h))
+            (settles bench command list handing (replyBody false false true (l ∷ ls)) e (reply-prompt false false true (l ∷ ls)) w (plainly (l ∷ ls) h))
 
     module _ (c : Client) (store ks server : List ℕ) (m : Between L (record { client = c; store = store; server = quiet server; lengths = ks })) where
       -- what comes of a start
@@ -211,7 +211,7 @@ module _ (L : ℕ → ℕ) (pids : List ℕ) (count : ℕ) (l : Line) (ls : List
       again = withUnder (withKnown (asks (c .known) under.Repeat) (withRepeat (c .known) (decided (c .known .repeat) support.Yes))) under.Complete (length whole)
 
       -- no `?` stands in the reply
-      repeats-well : onward 1 (settled (bench (c .known) under.Repeat store ks server (13 ∷ [])) (13 ∷ []) list [] handing (replyBody false false true (l ∷ ls))) list ≡
+      repeats-well : onward 1 (settled (bench (c .known) under.Repeat store ks server (13 ∷ [])) (13 ∷ []) list handing (replyBody false false true (l ∷ ls))) list ≡
           completeTurn again (sets store 0 whole) (delivered sendRoom (asks (c .known) under.Repeat) store ks whole .lengths)
       repeats-well = rw (← reply-prompt false false true (l ∷ ls), no-question (l ∷ ls))
 

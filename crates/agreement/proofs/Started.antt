@@ -28,7 +28,7 @@ use Rattle.agreement.proofs.Heard.{quiet, during, reset-heard, echo-off
 use Rattle.agreement.proofs.Arrive.{arrives}
 
 -- a command whose reply is plain, and ends with its prompt: the client comes out as it completes the whole reply
-module _ (b : Bench) (command list : List ℕ) (handed : List (List ℕ)) (x : Exchanged) (body : List ℕ) where
+module _ (b : Bench) (command list : List ℕ) (x : Exchanged) (body : List ℕ) where
   abbrev pub settledReply : Said Progress
   settledReply = completed (b .client .under) (b .client) (prompted body)
 
@@ -42,15 +42,15 @@ module _ (b : Bench) (command list : List ℕ) (handed : List (List ℕ)) (x : E
       server = x .next;
       lengths = delivered sendRoom (b .client) (b .store) (b .lengths) (prompted body) .lengths;
     };
-    handed = handed ++ x .handed;
+    handed = x .handed;
   }
 
   pub settles : exchanged replyRoom (b .server) command list ≡ x → x .text ≡ prompted body → Awaiting sendRoom (b .client) (b .store) [] → Plainly body →
-      turn b command handed list ≡ settled
+      turn b command list ≡ settled
   settles e q w ok =
       let a = arrives (b .client) (b .store) (b .lengths) body w ok in
-      (λ i. turned (e i) (delivered sendRoom (b .client) (b .store) (b .lengths) (e i .text)) handed) ∙
-      ap (λ r. turned x (delivered sendRoom (b .client) (b .store) (b .lengths) r) handed) q ∙
+      (λ i. turned (e i) (delivered sendRoom (b .client) (b .store) (b .lengths) (e i .text))) ∙
+      ap (λ r. turned x (delivered sendRoom (b .client) (b .store) (b .lengths) r)) q ∙
       (λ i. record {
         answer = a .0 i .answer;
         text = a .0 i .text;
@@ -60,7 +60,7 @@ module _ (b : Bench) (command list : List ℕ) (handed : List (List ℕ)) (x : E
           server = x .next;
           lengths = delivered sendRoom (b .client) (b .store) (b .lengths) (prompted body) .lengths;
         };
-        handed = handed ++ x .handed;
+        handed = x .handed;
       })
 
 -- The sessions between queries, in a run in which a PID p outside the table has the length L p.
@@ -100,10 +100,10 @@ sends repeat k command store s ks = record {
 module _ (n : ℕ) (repeat : Bool) (k : ℕ) (command store : List ℕ) (s : Session) (ks : List ℕ) (next : Session) (body : List ℕ) where
   answers : exchanged replyRoom s command [] ≡ record { next = next; text = prompted body; handed = [] } → Plainly body → 4096 ≤ length store →
       onward (suc n) (sends repeat k command store s ks) [] ≡
-      onward n (settled (sends repeat k command store s ks .bench) command [] [] (record { next = next; text = prompted body; handed = [] }) body) []
+      onward n (settled (sends repeat k command store s ks .bench) command [] (record { next = next; text = prompted body; handed = [] }) body) []
   answers e ok size =
       ap (λ (t : Turn). onward n t [])
-      (settles (sends repeat k command store s ks .bench) command [] [] _ body e refl
+      (settles (sends repeat k command store s ks .bench) command [] _ body e refl
       (record { turn = refl; reply = refl; out = omega arith; size = size; got = refl; front = refl }) ok)
 
 ok-plainly : Plainly (ascii "OK\r\r")

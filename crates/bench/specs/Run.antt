@@ -59,19 +59,23 @@ pub record Turn : Type 0 where
   pub handed : List (List ℕ)
 
 -- the reply that an exchange brought has been delivered
-abbrev pub turned : Exchanged → Delivered → List (List ℕ) → Turn
-turned x d handed = record {
+abbrev pub turned : Exchanged → Delivered → Turn
+turned x d = record {
   answer = d .said .answer;
   text = d .said .text;
   bench = record { client = d .said .next; store = d .store; server = x .next; lengths = d .lengths };
-  handed = handed ++ x .handed;
+  handed = x .handed;
 }
 
 -- the client's bytes go to the server, and all that it sends for them comes back in pieces; list is the line list of the query under way
-abbrev pub turn : Bench → List ℕ → List (List ℕ) → List ℕ → Turn
-turn b command handed list =
+abbrev pub turn : Bench → List ℕ → List ℕ → Turn
+turn b command list =
     let x = exchanged replyRoom (b .server) command list in
-    turned x (delivered sendRoom (b .client) (b .store) (b .lengths) (x .text)) handed
+    turned x (delivered sendRoom (b .client) (b .store) (b .lengths) (x .text))
+
+-- the same with some commands handed out before
+abbrev pub later : List (List ℕ) → Turn → Turn
+later handed t = record { answer = t .answer; text = t .text; bench = t .bench; handed = handed ++ t .handed }
 
 -- by what a reply said: a further command of the client is taken to the server
 abbrev pub sending : Answer Progress → Turn → Turn → Turn
@@ -84,7 +88,7 @@ sending (result complete) t next = t
 -- at most n further commands
 abbrev pub onward : ℕ → Turn → List ℕ → Turn
 onward zero t list = t
-onward (suc n) t list = sending (t .answer) t (onward n (turn (t .bench) (t .text) (t .handed) list) list)
+onward (suc n) t list = sending (t .answer) t (later (t .handed) (onward n (turn (t .bench) (t .text) list) list))
 
 -- ---- the initialisation
 
@@ -116,7 +120,7 @@ startSays c (p ∷ q ∷ ps) count = queryPidsSays sendRoom c (p ∷ q ∷ ps) c
 -- the query is started; a repeat that meets `?` is followed by the query in full
 abbrev pub asking : Bench → Said (Unit {0}) → List ℕ → Turn
 asking b s list =
-    onward 1 (turn (record { client = s .next; store = b .store; server = b .server; lengths = b .lengths }) (s .text) [] list) list
+    onward 1 (turn (record { client = s .next; store = b .store; server = b .server; lengths = b .lengths }) (s .text) list) list
 
 -- A query's part of the record or the number that ends the run, where the run then stands, and the OBD commands handed out.
 pub record Part : Type 0 where
