@@ -45,7 +45,8 @@ use Rattle.agreement.proofs.Agree.{Agree}
 use Rattle.agreement.proofs.Heard.{quiet, unspaced-some, unspaced-short, heard, heard-again}
 use Rattle.agreement.proofs.Arrive.{reply-stands, plainly, no-question, reply-overflows}
 use Rattle.agreement.proofs.Finished.{answer-reordered, finish-given}
-use Rattle.agreement.proofs.Started.{settled, settles, Between}
+use Rattle.agreement.proofs.Started.{settled, Between}
+use Rattle.agreement.proofs.Replied as replied
 
 -- What a script says of each of its queries.
 pub record Ready (q : Query) : Type 0 where
@@ -68,20 +69,6 @@ pub record Fails (q : Query) (p : Part) : Type 0 where
   pub answer : p .answer ≡ refused 8
   pub handed : p .handed ≡ commandOf q ∷ []
 
--- ---- the start
-
--- a query of several PIDs
-abbrev several : List ℕ → Bool
-several [] = true
-several (p ∷ []) = false
-several (p ∷ q ∷ ps) = true
-
-starts : (c : Client) (pids : List ℕ) (count : ℕ) → isNothing (c .under) ≡ true → 0 < length pids → length pids ≤ 6 →
-    startSays c pids count ≡ queryStarted 0 c (newQuery pids count (several pids))
-starts c [] count free some few = absurd (omega arith)
-starts c (p ∷ []) count free some few = pid-starts sendRoom c free (omega arith) p count
-starts c (p ∷ q ∷ ps) count free some few = pids-starts sendRoom c free (omega arith) (p ∷ q ∷ ps) count (λ e. omega arith) few
-
 and-right : (a b : Bool) → (a && b) ≡ true → b ≡ true
 and-right true b e = e
 and-right false b e = from-no cc
@@ -98,9 +85,8 @@ module _ (L : ℕ → ℕ) (pids : List ℕ) (count : ℕ) (l : Line) (ls : List
   abbrev reply : List ℕ
   reply = replyText false false true (l ∷ ls)
 
-  -- the same as its body and the prompt
-  abbrev whole : List ℕ
-  whole = prompted (replyBody false false true (l ∷ ls))
+  abbrev body : List ℕ
+  body = replyBody false false true (l ∷ ls)
 
   abbrev list : List ℕ
   list = linesBytes (l ∷ ls)
@@ -108,10 +94,6 @@ module _ (L : ℕ → ℕ) (pids : List ℕ) (count : ℕ) (l : Line) (ls : List
   -- what the server makes of it, in full or repeated
   abbrev handing : Exchanged
   handing = record { next = quiet (unspaced text); text = reply; handed = unspaced text ∷ [] }
-
-  -- the client waits for the reply
-  abbrev asks : Known → Under → Client
-  asks k u = record { known = k; query = newQuery pids count (several pids); under = u; got = 0 }
 
   -- the reply is complete
   abbrev completeTurn : Client → List ℕ → List ℕ → Turn
@@ -152,21 +134,19 @@ module _ (L : ℕ → ℕ) (pids : List ℕ) (count : ℕ) (l : Line) (ls : List
 
     -- the client has started the query, and waits for its reply
     module _ (k : Known) (u : Under) (store ks server command : List ℕ) where
-      abbrev bench : Bench
-      bench = record { client = asks k u; store = store; server = quiet server; lengths = ks }
+      abbrev taken : Turn
+      taken = turn (replied.bench pids count (l ∷ ls) k u store ks server command) command list
 
-      module _ (e : exchanged replyRoom (quiet server) command list ≡ handing) (w : Awaiting sendRoom (asks k u) store []) where
-        fails : 4096 < length reply → Fails query (finished (onward 1 (turn bench command list) list))
+      module _ (e : exchanged replyRoom (quiet server) command list ≡ handing) (w : Awaiting sendRoom (replied.asks pids count (l ∷ ls) k u) store []) where
+        fails : 4096 < length reply → Fails query (finished (onward 1 taken list))
         fails h =
-            let t = turn bench command list in
-            stops (t .answer) (t .text) (t .bench) (t .handed)
-            (ap (λ (x : Exchanged). delivered sendRoom (asks k u) store ks (x .text) .said .answer) e ∙ reply-overflows (asks k u) store ks w (l ∷ ls) h)
+            stops (taken .answer) (taken .text) (taken .bench) (taken .handed) (replied.reply-fails pids count (l ∷ ls) k u store ks server command handing e refl w h)
             (ap (λ (x : Exchanged). x .handed) e)
 
-        comes : length reply ≤ 4096 → onward 1 (turn bench command list) list ≡ onward 1 (settled bench command list handing (replyBody false false true (l ∷ ls))) list
-        comes h =
-            ap (λ (t : Turn). onward 1 t list)
-            (settles bench command list handing (replyBody false false true (l ∷ ls)) e (reply-prompt false false true (l ∷ ls)) w (plainly (l ∷ ls) h))
+        gives : (c : Client) (ks′ : List ℕ) → length reply ≤ 4096 → settled (replied.bench pids count (l ∷ ls) k u store ks server command) command list handing body ≡ completeTurn c (sets store 0 (prompted body)) ks′ →
+            Gives L query (finished (completeTurn c (sets store 0 (prompted body)) ks′)) → Gives L query (finished (onward 1 taken list))
+        gives c ks′ h q g =
+            subst (λ (t : Turn). Gives L query (finished (onward 1 t list))) (sym (replied.reply-comes pids count (l ∷ ls) k u store ks server command handing e refl w h ∙ q)) g
 
     module _ (c : Client) (store ks server : List ℕ) (m : Between L (record { client = c; store = store; server = quiet server; lengths = ks })) where
       -- what comes of a start
@@ -177,43 +157,30 @@ module _ (L : ℕ → ℕ) (pids : List ℕ) (count : ℕ) (l : Line) (ls : List
       Comes s = (length reply ≤ 4096 → Gives L query (started s)) × (4096 < length reply → Fails query (started s))
 
       abbrev inFull : Said (Unit {0})
-      inFull = saying tt (asks (c .known) under.Query) (text ++ (13 ∷ []))
+      inFull = saying tt (replied.asks pids count (l ∷ ls) (c .known) under.Query) (text ++ (13 ∷ []))
 
       abbrev byCR : Said (Unit {0})
-      byCR = saying tt (asks (c .known) under.Repeat) (13 ∷ [])
+      byCR = saying tt (replied.asks pids count (l ∷ ls) (c .known) under.Repeat) (13 ∷ [])
 
-      -- the reply stands in the store
-      stands : (d : Client) → d .got ≡ length whole → length reply ≤ 4096 →
-          replyIn d (sets store 0 whole) ≡ reply
-      stands d n h =
-          let e = reply-prompt false false true (l ∷ ls) in
-          let short : length whole ≤ 4096 = rw (← e) h in
-          reply-stands d store whole n short (m .size) ∙ sym e
+      abbrev held : List ℕ
+      held = sets store 0 (prompted body)
 
-      size : 4096 ≤ length (sets store 0 whole)
-      size = omega (arith, m .size, length-sets store 0 whole)
+      size : 4096 ≤ length held
+      size = replied.still-size pids count (l ∷ ls) store (m .size)
 
-      -- the session when the reply is complete
-      abbrev fully : Client
-      fully = withUnder (withKnown (asks (c .known) under.Query) (withLast (c .known) text)) under.Complete (length whole)
+      stands : (d : Client) → d .got ≡ length (prompted body) → length reply ≤ 4096 → replyIn d held ≡ reply
+      stands = replied.stands pids count (l ∷ ls) store (m .size)
 
       in-full : Comes inFull
       in-full =
           let x = heard pids count (ok .few) (ok .counted) server (l ∷ ls) (ok .fit) (ok .many) in
-          let w : Awaiting sendRoom (asks (c .known) under.Query) store [] = record { turn = refl; reply = refl; out = omega arith; size = m .size; got = refl; front = refl } in (
+          let d = replied.fully pids count (l ∷ ls) (c .known) in
+          let w = replied.waits (replied.asks pids count (l ∷ ls) (c .known) under.Query) store refl refl refl (m .size) in (
             λ h.
-                subst (λ (t : Turn). Gives L query (finished t)) (sym (comes (c .known) under.Query store ks server (text ++ (13 ∷ [])) x w h))
-                (finishes fully _ _ refl (m .framing) refl (m .agree) size (stands fully refl h) refl),
+                gives (c .known) under.Query store ks server (text ++ (13 ∷ [])) x w d _ h refl
+                (finishes d held _ refl (m .framing) refl (m .agree) size (stands d refl h) refl),
             fails (c .known) under.Query store ks server (text ++ (13 ∷ [])) x w,
           )
-
-      abbrev again : Client
-      again = withUnder (withKnown (asks (c .known) under.Repeat) (withRepeat (c .known) (decided (c .known .repeat) support.Yes))) under.Complete (length whole)
-
-      -- no `?` stands in the reply
-      repeats-well : onward 1 (settled (bench (c .known) under.Repeat store ks server (13 ∷ [])) (13 ∷ []) list handing (replyBody false false true (l ∷ ls))) list ≡
-          completeTurn again (sets store 0 whole) (delivered sendRoom (asks (c .known) under.Repeat) store ks whole .lengths)
-      repeats-well = rw (← reply-prompt false false true (l ∷ ls), no-question (l ∷ ls))
 
       repeated : c .known .last ≡ text → Comes byCR
       repeated last =
@@ -221,21 +188,22 @@ module _ (L : ℕ → ℕ) (pids : List ℕ) (count : ℕ) (l : Line) (ls : List
           let linked : server ≡ unspaced text = ap (λ (s : Session). s .state .last) (m .server) ∙ m .linked there ∙ ap unspaced last in
           let x : exchanged replyRoom (quiet server) (13 ∷ []) list ≡ handing =
           rw linked (heard-again (unspaced text) (unspaced-some pids count) (unspaced-short pids count (ok .few)) (l ∷ ls) (ok .fit) (ok .many)) in
-          let w : Awaiting sendRoom (asks (c .known) under.Repeat) store [] = record { turn = refl; reply = refl; out = omega arith; size = m .size; got = refl; front = refl } in (
+          let d = replied.again pids count (l ∷ ls) (c .known) in
+          let w = replied.waits (replied.asks pids count (l ∷ ls) (c .known) under.Repeat) store refl refl refl (m .size) in (
             λ h.
-                subst (λ (t : Turn). Gives L query (finished t)) (sym (comes (c .known) under.Repeat store ks server (13 ∷ []) x w h ∙ repeats-well))
-                (finishes again _ _ refl (m .framing) refl (m .agree) size (stands again refl h) last),
+                gives (c .known) under.Repeat store ks server (13 ∷ []) x w d _ h (replied.repeat-complete pids count (l ∷ ls) (c .known) store ks server handing)
+                (finishes d held _ refl (m .framing) refl (m .agree) size (stands d refl h) last),
             fails (c .known) under.Repeat store ks server (13 ∷ []) x w,
           )
 
       asked : Comes (startSays c pids count)
       asked =
-          let s : startSays c pids count ≡ queryStarted 0 c (newQuery pids count (several pids)) = starts c pids count (rw (m .turn)) (ok .some) (ok .few) in
+          let s : startSays c pids count ≡ queryStarted 0 c (newQuery pids count (replied.several pids)) = replied.starts c pids count (rw (m .turn)) (ok .some) (ok .few) in
           by-test (repeats (c .known) text)
           (λ e.
           let last : c .known .last ≡ text = same-true (c .known .last) text (and-right (mayTry (c .known .repeat)) (same (c .known .last) text) e) in
-          subst Comes (sym (s ∙ query-repeated c (newQuery pids count (several pids)) e)) (repeated last))
-          (λ e. subst Comes (sym (s ∙ query-in-full c (newQuery pids count (several pids)) e)) in-full)
+          subst Comes (sym (s ∙ query-repeated c (newQuery pids count (replied.several pids)) e)) (repeated last))
+          (λ e. subst Comes (sym (s ∙ query-in-full c (newQuery pids count (replied.several pids)) e)) in-full)
 
 -- ---- a query of a run
 

@@ -5,7 +5,9 @@ pub mod Heard
 pub mod Arrive
 pub mod Finished
 pub mod Started
+pub mod Replied
 pub mod Asked
 pub mod Told
 pub mod Ran
+pub mod Numbers
 pub mod Agreement

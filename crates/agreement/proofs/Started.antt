@@ -131,6 +131,7 @@ pub record Started (L : ℕ → ℕ) (t : Turn) : Type 0 where
   pub answer : t .answer ≡ result over
   pub handed : t .handed ≡ []
   pub between : Between L (t .bench)
+  pub fresh : between .last ≡ []
 
 module _ (L : ℕ → ℕ) (repeat : Bool) (ks : List ℕ) where
   -- the last of the five has set framing as it was asked for
@@ -150,6 +151,7 @@ module _ (L : ℕ → ℕ) (repeat : Bool) (ks : List ℕ) where
     answer = refl;
     handed = refl;
     between = record { turn = refl; framing = refl; agree = agree-fresh L; size = size; last = []; server = refl; linked = λ h. absurd (omega arith) };
+    fresh = refl;
   }
 
   pub started : Started L (initialised repeat ks)

@@ -1,3 +1,4 @@
 pub mod Vehicle
 pub mod Lines
 pub mod Demand
+pub mod Ends

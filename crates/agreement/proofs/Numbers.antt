@@ -1,0 +1,218 @@
+-- On every script a run is ended by no number but 3 or 5 before it, and 8 or 6 as it runs: 8 where a reply has over 4,096 bytes, 6 where a part overruns the
+-- record buffer.
+use mathlib.Core.Path.{_≡_, refl, sym, ap, subst, _∙_}
+use mathlib.Core.Bool.{Bool, true, false, cond, _&&_}
+use mathlib.Core.List.{List, [], _∷_, _++_}
+use Prim.Native.Nat.{ℕ, zero, suc, _-_, _≤_, _<_}
+use native.Mathlib.Omega.{arith}
+use lib.Dec.{ltb}
+use lib.ListN.{length}
+use lib.Seq.{sets, length-sets}
+use borrow.Author.Tests.{ltb-true, ltb-false}
+use Rattle.wire.specs.Answer.{Answer, result, refused}
+use Rattle.wire.specs.Text.{ascii, has, high}
+use Rattle.wire.proofs.Cases.{by-test, from-no}
+use Rattle.line_list.specs.Lines.{Line, linesBytes}
+use Rattle.reply.specs.Reply.{replyText}
+use Rattle.reply.proofs.ByteLaws.{replyBody, reply-prompt, reply-low}
+use Rattle.reply_lines.specs.Lines.{unspaced}
+use Rattle.query.specs.Query.{queryText}
+use Rattle.server_state.specs.declared.FeatureSupport.the-variants as support
+use Rattle.server_state.specs.State.{decided}
+use Rattle.client_session.specs.declared.Under.{Under}
+use Rattle.client_session.specs.declared.Under.the-variants as under
+use Rattle.client_session.specs.Session as client
+use Rattle.client_session.specs.Session.{Known, Client, Said, saying, withUnder, withKnown, withLast, withRepeat}
+use Rattle.client_session.specs.Start.{repeats, newQuery, queryStarted}
+use Rattle.client_session.specs.Piece.{Progress, complete, replyIn}
+use Rattle.client_session.specs.Finish.{finishSays}
+use Rattle.client_session.proofs.StartLaws.{query-repeated, query-in-full}
+use Rattle.client_session.proofs.PiecesLaws.{Awaiting, prompted}
+use Rattle.script.specs.Script.{Query, script}
+use Rattle.exchange.specs.Exchange.{Exchanged, exchanged}
+use Rattle.exchange.specs.Deliver.{delivered}
+use Rattle.bench.specs.Run as run
+use Rattle.bench.specs.Run.{sendRoom, replyRoom, valuesRoom, Bench, Turn, turn, onward, later, startSays, Part, partOf, finished, part, Run, asked, runSays, runRead, initialised}
+use Rattle.agreement.specs.Ends as ends
+use Rattle.agreement.specs.Ends.{Ends, too-long, malformed, small-buffer, too-much}
+use Rattle.agreement.proofs.Heard.{quiet, lastCommand, unspaced-some, unspaced-short, heard, heard-again, heard-unknown}
+use Rattle.agreement.proofs.Arrive.{reply-stands, plainly, no-question, question-plainly, reply-overflows}
+use Rattle.agreement.proofs.Finished.{finish-any}
+use Rattle.agreement.proofs.Started.{settled, settles, Between, started}
+use Rattle.agreement.proofs.Replied as replied
+use Rattle.agreement.proofs.Asked.{Ready}
+use Rattle.agreement.proofs.Ran.{AllReady}
+
+-- The sessions between queries, on any script.
+record Quiet (b : Bench) : Type 0 where
+  turn : b .client .under ≡ under.Nothing
+  size : 4096 ≤ length (b .store)
+  last : List ℕ
+  short : length last ≤ 128
+  server : b .server ≡ quiet last
+
+-- A query has a part, and the sessions go on; or its reply is too long.
+data Goes (p : Part) : Type 0 where
+  goes-on : (bytes : List ℕ) → p .answer ≡ result bytes → Quiet (p .bench) → Goes p
+  overlong : p .answer ≡ refused 8 → Goes p
+
+-- a complete reply is finished
+abbrev completeTurn : Client → List ℕ → List ℕ → List ℕ → List (List ℕ) → Turn
+completeTurn c store last ks handed = record {
+  answer = result complete;
+  text = [];
+  bench = record { client = c; store = store; server = quiet last; lengths = ks };
+  handed = handed;
+}
+
+finishes : (c : Client) (store last ks : List ℕ) (handed : List (List ℕ)) → c .under ≡ under.Complete → 4096 ≤ length store → high (replyIn c store) ≡ false → length last ≤ 128 →
+    Goes (finished (completeTurn c store last ks handed))
+finishes c store last ks handed u size low short =
+    let (n, a, o) = finish-any c store (rw u) size low in
+    let f = finishSays valuesRoom c store in
+    goes-on _ (ap (partOf f) a) (record { turn = o .under; size = size; last = last; short = short; server = refl })
+
+-- A turn that leaves the client with a complete reply, or with 8.
+data Done (t : Turn) : Type 0 where
+  whole : (c : Client) (store last ks : List ℕ) (handed : List (List ℕ)) → c .under ≡ under.Complete → 4096 ≤ length store → high (replyIn c store) ≡ false → length last ≤ 128 →
+      t ≡ completeTurn c store last ks handed → Done t
+  much : t .answer ≡ refused 8 → Done t
+
+number-goes : (a : Answer Progress) (text : List ℕ) (b : Bench) (h : List (List ℕ)) → a ≡ refused 8 → Goes (finished (record { answer = a; text = text; bench = b; handed = h }))
+number-goes (refused n) text b h q = overlong (let e : n ≡ 8 = cc in ap refused e)
+number-goes (result p) text b h q = from-no cc
+
+number-stops : (a : Answer Progress) (text : List ℕ) (b : Bench) (h : List (List ℕ)) (n : ℕ) (list : List ℕ) → a ≡ refused 8 →
+    onward n (record { answer = a; text = text; bench = b; handed = h }) list ≡ record { answer = a; text = text; bench = b; handed = h }
+number-stops a text b h zero list q = refl
+number-stops (refused m) text b h (suc n) list q = refl
+number-stops (result p) text b h (suc n) list q = from-no cc
+
+done-goes : (t : Turn) (handed : List (List ℕ)) → Done t → Goes (finished (later handed t))
+done-goes t handed (much e) = number-goes (t .answer) (t .text) (t .bench) (handed ++ t .handed) e
+done-goes t handed (whole c store last ks h u size low short e) =
+    subst (λ (t : Turn). Goes (finished (later handed t))) (sym e) (finishes c store last ks (handed ++ h) u size low short)
+
+done-stays : (t : Turn) (list : List ℕ) → Done t → onward 1 t list ≡ t
+done-stays t list (much e) = number-stops (t .answer) (t .text) (t .bench) (t .handed) 1 list e
+done-stays t list (whole c store last ks h u size low short e) = subst (λ (t : Turn). onward 1 t list ≡ t) (sym e) refl
+
+module _ (pids : List ℕ) (count : ℕ) (ls : List Line) (ok : Ready (record { pids = pids; count = count; lines = ls })) where
+  abbrev text : List ℕ
+  text = queryText pids count
+
+  abbrev reply : List ℕ
+  reply = replyText false false true ls
+
+  abbrev body : List ℕ
+  body = replyBody false false true ls
+
+  abbrev list : List ℕ
+  list = linesBytes ls
+
+  -- a command that the server replies to with the lines
+  module _ (k : Known) (u : Under) (store ks server command next : List ℕ) (handed : List (List ℕ)) (size : 4096 ≤ length store) (short : length next ≤ 128) where
+    abbrev sent : Bench
+    sent = replied.bench pids count ls k u store ks server command
+
+    abbrev handing : Exchanged
+    handing = record { next = quiet next; text = reply; handed = handed }
+
+    module _ (e : exchanged replyRoom (quiet server) command list ≡ handing) (w : Awaiting sendRoom (replied.asks pids count ls k u) store []) where
+      done : (c : Client) (ks′ : List ℕ) → c .under ≡ under.Complete → c .got ≡ length (prompted body) →
+          settled sent command list handing body ≡ completeTurn c (sets store 0 (prompted body)) next ks′ handed → Done (turn sent command list)
+      done c ks′ u′ got q =
+          by-test (ltb 4096 (length reply))
+          (λ t. much (replied.reply-fails pids count ls k u store ks server command handing e refl w (ltb-true 4096 (length reply) t)))
+          (λ t.
+          let h = ltb-false 4096 (length reply) t in
+          let low : high (replyIn c (sets store 0 (prompted body))) ≡ false = ap high (replied.stands pids count ls store size c got h) ∙ reply-low false false true ls in
+          whole c (sets store 0 (prompted body)) next ks′ handed u′ (replied.still-size pids count ls store size) low short
+          (replied.reply-comes pids count ls k u store ks server command handing e refl w h ∙ q))
+
+  module _ (k : Known) (store ks server : List ℕ) (size : 4096 ≤ length store) (short : length server ≤ 128) where
+    -- a query in full
+    last-short : (ls : List Line) → length (lastCommand ls server (unspaced text)) ≤ 128
+    last-short [] = short
+    last-short (l ∷ ls) = unspaced-short pids count (ok .few)
+
+    in-full : Done (turn (replied.bench pids count ls k under.Query store ks server (text ++ (13 ∷ []))) (text ++ (13 ∷ [])) list)
+    in-full =
+        done k under.Query store ks server (text ++ (13 ∷ [])) (lastCommand ls server (unspaced text)) (unspaced text ∷ []) size (last-short ls)
+        (heard pids count (ok .few) (ok .counted) server ls (ok .fit) (ok .many))
+        (replied.waits (replied.asks pids count ls k under.Query) store refl refl refl size)
+        (replied.fully pids count ls k) _ refl refl refl
+
+    -- a repeat of the server's last command
+    again : 0 < length server → Done (turn (replied.bench pids count ls k under.Repeat store ks server (13 ∷ [])) (13 ∷ []) list)
+    again some =
+        done k under.Repeat store ks server (13 ∷ []) server (server ∷ []) size short (heard-again server some short ls (ok .fit) (ok .many))
+        (replied.waits (replied.asks pids count ls k under.Repeat) store refl refl refl size)
+        (replied.again pids count ls k) _ refl refl (replied.repeat-complete pids count ls k store ks server (record { next = quiet server; text = reply; handed = server ∷ [] }))
+
+  module _ (k : Known) (store ks : List ℕ) (size : 4096 ≤ length store) where
+    abbrev asking : Bench
+    asking = replied.bench pids count ls k under.Repeat store ks [] (13 ∷ [])
+
+    -- a repeat where the server has none: it answers `?`, and the query follows in full
+    unknown : Goes (finished (onward 1 (turn asking (13 ∷ []) list) list))
+    unfolding has
+    unknown =
+        let x : Exchanged = record { next = quiet []; text = prompted (ascii "?\r\r"); handed = [] } in
+        let w = replied.waits (replied.asks pids count ls k under.Repeat) store refl refl refl size in
+        let still : 4096 ≤ length (sets store 0 (prompted (ascii "?\r\r"))) = omega (arith, length-sets store 0 (prompted (ascii "?\r\r"))) in
+        subst (λ (t : Turn). Goes (finished (onward 1 t list))) (sym (settles asking (13 ∷ []) list x (ascii "?\r\r") (heard-unknown list) refl w question-plainly))
+        (done-goes _ [] (in-full (withRepeat k support.No) (sets store 0 (prompted (ascii "?\r\r"))) _ [] still (omega arith)))
+
+    repeated : (server : List ℕ) → length server ≤ 128 → Goes (finished (onward 1 (turn (replied.bench pids count ls k under.Repeat store ks server (13 ∷ [])) (13 ∷ []) list) list))
+    repeated [] short = unknown
+    repeated (b ∷ server) short =
+        let d = again k store ks (b ∷ server) size short (omega arith) in
+        subst (λ (t : Turn). Goes (finished t)) (sym (done-stays _ list d)) (done-goes _ [] d)
+
+    fully : (server : List ℕ) → length server ≤ 128 →
+        Goes (finished (onward 1 (turn (replied.bench pids count ls k under.Query store ks server (text ++ (13 ∷ []))) (text ++ (13 ∷ [])) list) list))
+    fully server short =
+        let d = in-full k store ks server size short in
+        subst (λ (t : Turn). Goes (finished t)) (sym (done-stays _ list d)) (done-goes _ [] d)
+
+  -- what comes of a start
+  goes : (c : Client) (store ks server : List ℕ) → c .under ≡ under.Nothing → 4096 ≤ length store → length server ≤ 128 →
+      Goes (finished (run.asking (record { client = c; store = store; server = quiet server; lengths = ks }) (startSays c pids count) list))
+  goes c store ks server free size short =
+      let q = newQuery pids count (replied.several pids) in
+      let s : startSays c pids count ≡ queryStarted 0 c q = replied.starts c pids count (rw free) (ok .some) (ok .few) in
+      let b : Bench = record { client = c; store = store; server = quiet server; lengths = ks } in
+      by-test (repeats (c .known) text)
+      (λ e. subst (λ (s : Said (Unit {0})). Goes (finished (run.asking b s list))) (sym (s ∙ query-repeated c q e)) (repeated (c .known) store ks size server short))
+      (λ e. subst (λ (s : Said (Unit {0})). Goes (finished (run.asking b s list))) (sym (s ∙ query-in-full c q e)) (fully (c .known) store ks size server short))
+
+part-goes : (b : Bench) (q : Query) → Quiet b → Ready q → Goes (part b q)
+unfolding part
+part-goes b q m ok =
+    let plain : b ≡ record { client = b .client; store = b .store; server = quiet (m .last); lengths = b .lengths } =
+    λ i. record { client = b .client; store = b .store; server = m .server i; lengths = b .lengths } in
+    subst (λ (b : Bench). Goes (finished (run.asking b (startSays (b .client) (q .pids) (q .count)) (linesBytes (q .lines))))) (sym plain)
+    (goes (q .pids) (q .count) (q .lines) ok (b .client) (b .store) (b .lengths) (m .last) (m .turn) (m .size) (m .short))
+
+-- ---- a run
+
+one-ends : (room : ℕ) (b : Bench) (q : Query) (qs : List Query) → Goes (part b q) →
+    ((room : ℕ) → Quiet (part b q .bench) → Ends (asked room (part b q .bench) qs .answer)) → Ends (asked room b (q ∷ qs) .answer)
+one-ends room b q qs (overlong e) rest = rw e too-much
+one-ends room b q qs (goes-on bytes e m) rest =
+    rw e (by-test (ltb room (length bytes)) (λ t. rw t small-buffer) (λ t. rw t (rest (room - length bytes) m)))
+
+asked-ends : (room : ℕ) (b : Bench) (qs : List Query) → Quiet b → AllReady qs → Ends (asked room b qs .answer)
+asked-ends room b [] m ok = ends.whole
+asked-ends room b (q ∷ qs) m ok = one-ends room b q qs (part-goes b q m (ok .0)) (λ room n. asked-ends room (part b q .bench) qs n (ok .1))
+
+-- after the initialisation
+fresh-quiet : (repeat : Bool) (ks : List ℕ) → Quiet (initialised repeat ks .bench)
+fresh-quiet repeat ks =
+    let t = started (λ p. 0) repeat ks in
+    let m = t .between in
+    record { turn = m .turn; size = m .size; last = m .last; short = rw (t .fresh) (omega arith); server = m .server }
+
+read-ends : (repeat : Bool) (ks : List ℕ) (room : ℕ) (qs : List Query) → AllReady qs → Ends (runRead repeat ks room (result qs) .answer)
+read-ends repeat ks room qs ok = rw (started (λ p. 0) repeat ks .answer) (asked-ends room (initialised repeat ks .bench) qs (fresh-quiet repeat ks) ok)
