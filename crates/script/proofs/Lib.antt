@@ -1,0 +1,3 @@
+pub mod LinesLaws
+pub mod QueryLaws
+pub mod StepLaws
