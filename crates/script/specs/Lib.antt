@@ -1,1 +1,4 @@
 pub mod Script
+pub mod Written
+pub mod Answers
+pub mod Steps
