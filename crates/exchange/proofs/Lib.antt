@@ -1,1 +1,2 @@
 pub mod PiecesLaws
+pub mod ExchangeLaws
