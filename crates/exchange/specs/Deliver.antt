@@ -7,7 +7,7 @@ use lib.Dec.{eqb, ltb}
 use lib.ListN.{length, take, drop}
 use Rattle.client_session.specs.Session.{Client, client, Said, Served, lent}
 use Rattle.client_session.specs.Piece.{Progress, pieceAnswer}
-use Rattle.client_session.specs.Pieces.{Fed, fed}
+use Rattle.client_session.specs.Pieces.{fed}
 use Rattle.exchange.specs.declared.Delivery.{Delivery}
 
 abbrev pub pieceSize : ℕ → ℕ

@@ -11,7 +11,7 @@ use Rattle.server_session.specs.declared.Phase.the-variants.{Reading, AtCommand
 use Rattle.server_session.specs.Session.{Session, session, Said}
 use Rattle.server_session.specs.Bytes.{Heard, bytesSay}
 use Rattle.server_session.specs.Replies.{answerSays, replySays}
-use Rattle.exchange.specs.declared.Exchange.{Exchange}
+use Rattle.exchange.specs.declared.ExchangeStep.{ExchangeStep}
 
 abbrev pub identity : List ℕ
 identity = ascii "ELM327 v1.5"
@@ -50,7 +50,7 @@ pub record Served : Type 0 where
   pub next : Session
   pub out : List ℕ
 
-abbrev pub exchangeServed : Exchange → List ℕ → Served
+abbrev pub exchangeServed : ExchangeStep → List ℕ → Served
 exchangeServed r out = record { written = r .written; next = session (r .session); out = out }
 
 abbrev pub lent : Exchanged → List ℕ → Served

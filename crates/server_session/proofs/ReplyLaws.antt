@@ -198,6 +198,9 @@ answer-short room s ati device =
     record { fits = omega arith }))))
     (λ _. short-number 1 s)
 
+pub answer-fits : (room : ℕ) (s : Session) (ati device : List ℕ) → length (answerSays room s ati device .text) ≤ room
+answer-fits room s ati device = answer-short room s ati device .fits
+
 pub answer-written : (s : Session) (ati device out left : List ℕ) (r : ReplyStep) → replyServed r left ≡ lent (answerSays (length out) s ati device) out → r .written ≤ length out
 answer-written s ati device out left r e = within out left r (answer-short (length out) s ati device) e
 
@@ -209,6 +212,9 @@ read-short room s (got ls rest) =
 reply-short : (room : ℕ) (s : Session) (list : List ℕ) → Short room (replySays room s list)
 unfolding replySays
 reply-short room s list = short-any (isObd (s .phase)) (λ _. read-short room s (lineList list)) (λ _. short-number 1 s)
+
+pub reply-fits : (room : ℕ) (s : Session) (list : List ℕ) → length (replySays room s list .text) ≤ room
+reply-fits room s list = reply-short room s list .fits
 
 pub reply-written : (s : Session) (list out left : List ℕ) (r : ReplyStep) → replyServed r left ≡ lent (replySays (length out) s list) out → r .written ≤ length out
 reply-written s list out left r e = within out left r (reply-short (length out) s list) e
