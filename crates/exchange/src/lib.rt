@@ -121,7 +121,7 @@ fn awaits(answer: PieceAnswer) -> bool
     }
 }
 
-// The server's bytes for a command, handed to the client in pieces, of which the first used lengths are used up: one after the other while more is awaited.
+// Hands the server's bytes for a command to the client, piece after piece while more is awaited. The first used of the piece lengths are used up.
 pub fn deliver(
     session: ClientSession,
     reply: &[u8],

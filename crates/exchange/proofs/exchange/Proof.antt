@@ -13,7 +13,7 @@ use Rattle.server_session.specs.declared.Phase.{Phase}
 use Rattle.server_session.specs.Session.{Session, session}
 use Rattle.server_session.specs.Bytes.{byteAnswer, Heard}
 use Rattle.server_session.proofs.ReplyLaws.{answer-written, reply-written}
-use Rattle.exchange.specs.Exchange.{identity, device, unanswered, answered, exchanged, exchangeServed, lent}
+use Rattle.exchange.specs.Exchange.{unanswered, answered, exchanged, exchangeServed, lent}
 use Rattle.exchange.proofs.ExchangeLaws.{place-inside, sum-inside, unanswered-lent, at-lent, obd-lent}
 use Rattle.exchange.proofs.exchange.Statement.{statement}
 use Rattle.exchange.proofs.exchange.Tie as tie
@@ -59,7 +59,7 @@ module _ (c : tie.After-answer) where
   at-heard = c .before .before .before .before .before .before .before .before .before
 
   at-sum : Fits w64 (at-heard .bytes .result .written + c .answer .result .written)
-  at-sum = sum at-heard _ (answer-written (session (at-heard .bytes .result .session)) identity device (rest at-heard) (c .answer .last .1 .1 .1 .0) (c .answer .result) (c .answer .ensures))
+  at-sum = sum at-heard _ (answer-written (session (at-heard .bytes .result .session)) _ _ (rest at-heard) (c .answer .last .1 .1 .1 .0) (c .answer .result) (c .answer .ensures))
 
 -- An OBD command is replied to.
 module _ (c : tie.After-reply) where
@@ -67,7 +67,7 @@ module _ (c : tie.After-reply) where
   obd-heard = c .before .before .before .before .before .before .before
 
   obd-sum : Fits w64 (obd-heard .bytes .result .written + c .reply .result .written)
-  obd-sum = sum obd-heard _ (reply-written (session (obd-heard .bytes .result .session)) (list obd-heard) (rest obd-heard) (c .reply .last .1 .1 .0) (c .reply .result) (c .reply .ensures))
+  obd-sum = sum obd-heard _ (reply-written (session (obd-heard .bytes .result .session)) _ (rest obd-heard) (c .reply .last .1 .1 .0) (c .reply .result) (c .reply .ensures))
 
 bytes-requires : tie.Need-bytes-requires
 bytes-requires c κs = search needs
