@@ -1,4 +1,21 @@
 // The bench run: a script of queries through a client session joined to a server session, and the hire record of it (document 01's terms).
+mod ask;
+mod turns;
+
+use client_session::ClientSession;
+use client_session::PieceAnswer;
+use script::QueryStep;
+use script::ScriptCheck;
+use script::ScriptCursor;
+use server_session::ServerSession;
+ghost use mathlib.Core.Path.{_≡_};
+ghost use mathlib.Core.List.{_++_};
+ghost use lib.ListN.{length};
+ghost use Rattle.wire.specs.Put.{Put};
+ghost use Rattle.group.specs.Group.{groupBytes};
+ghost use Rattle.bench.specs.declared.RunAnswer.the-variants.{Refused};
+ghost use Rattle.bench.specs.Run.{valuesRoom, asked, runSays, recorded, lent};
+ghost use Rattle.bench.specs.Steps.{benchOf, Room, IsScript, queriesIn};
 
 // How a run ended.
 pub enum RunAnswer {
@@ -11,4 +28,136 @@ pub struct BenchRun {
     pub answer: RunAnswer,
     // How many bytes of the record stand.
     pub written: usize,
+}
+
+// Both sessions, and how many piece lengths are used up.
+struct Bench {
+    client: ClientSession,
+    server: ServerSession,
+    used: usize,
+}
+
+// Where the run stands after a command.
+struct Turn {
+    // What the reply said to the client.
+    answer: PieceAnswer,
+    // How many bytes of out the client sends next.
+    written: usize,
+    bench: Bench,
+}
+
+// A query's values, or the number that ends the run.
+struct PartStep {
+    // 0 for none.
+    number: u8,
+    // How many values stand in the lent buffer, and how many bytes they take.
+    count: usize,
+    written: usize,
+    bench: Bench,
+}
+
+fn refused(number: u8, written: usize) -> BenchRun
+    ensures { λ r. ⌜ r ≡ record { answer = Refused number; written = written } ⌝ }
+{
+    BenchRun {
+        answer: RunAnswer::Refused(number),
+        written,
+    }
+}
+
+// A part of the record from position at on.
+fn put_part(buffer: &mut [u8], at: usize, count: usize, values: &[u8]) -> usize
+    ensures { λ r. ⌜ Put (now (buffer .entry)) at (groupBytes count ++ now (values .entry)) r (now (buffer .exit)) ⌝ }
+{
+    let start = group::put_group(buffer, at, count);
+    wire::put(buffer, start, values)
+}
+
+// Asks the queries of a checked script, and writes their parts into the record one after the other.
+fn ask_all(
+    script: &[u8],
+    lengths: &[u8],
+    from: Bench,
+    buffer: &mut [u8],
+    out: &mut [u8],
+    reply: &mut [u8],
+    store: &mut [u8],
+    values: &mut [u8],
+) -> BenchRun
+    requires { ⌜ IsScript (now script) × Room (now out) (now reply) × (length (now values) ≡ valuesRoom) ⌝ }
+    ensures { λ r. ⌜ recorded r (now (buffer .exit)) ≡ lent (asked (length (now (buffer .entry))) (benchOf from (now (store .entry)) (now (lengths .entry))) (queriesIn (now (script .entry)))) (now (buffer .entry)) ⌝ }
+{
+    let mut bench = from;
+    let mut cursor = ScriptCursor::new();
+    let mut at: usize = 0;
+    while cursor.at < script.len() {
+        let QueryStep::Query {
+            pids,
+            few,
+            count,
+            list,
+            next,
+        } = cursor.step(script)
+        else {
+            return refused(5, at);
+        };
+        let pids_end = pids + few;
+        let list_end = next.at;
+        let part = ask::part(
+            bench,
+            &script[pids..pids_end],
+            count,
+            &script[list..list_end],
+            lengths,
+            out,
+            reply,
+            store,
+            values,
+        );
+        if part.number != 0 {
+            return refused(part.number, at);
+        }
+        let size = part.written;
+        if buffer.len() - at < group::group_size(part.count) + size {
+            return refused(6, at);
+        }
+        at = put_part(buffer, at, part.count, &values[..size]);
+        bench = part.bench;
+        cursor = next;
+    }
+    BenchRun {
+        answer: RunAnswer::Complete,
+        written: at,
+    }
+}
+
+// A run of a checked script from fresh sessions.
+fn run_checked(script: &[u8], lengths: &[u8], repeat: bool, buffer: &mut [u8]) -> BenchRun
+    requires { ⌜ IsScript (now script) ⌝ }
+    ensures { λ r. ⌜ recorded r (now (buffer .exit)) ≡ lent (runSays repeat (now (lengths .entry)) (length (now (buffer .entry))) (now (script .entry))) (now (buffer .entry)) ⌝ }
+{
+    let mut out = [0u8; 80];
+    let mut reply = [0u8; 33026];
+    let mut store = [0u8; 4096];
+    let mut values = [0u8; 12291];
+    let begun = turns::initialise(repeat, lengths, &mut out, &mut reply, &mut store);
+    let answer = begun.answer;
+    let number = ask::piece_number(answer);
+    if number != 0 {
+        return refused(number, 0);
+    }
+    let bench = begun.bench;
+    ask_all(script, lengths, bench, buffer, &mut out, &mut reply, &mut store, &mut values)
+}
+
+// Runs a script, with the lengths of the pieces that the server's bytes are handed to the client in, and with repeat on or off. The parts stand at the front of
+// the record buffer.
+pub fn run(script: &[u8], lengths: &[u8], repeat: bool, buffer: &mut [u8]) -> BenchRun
+    ensures { λ r. ⌜ recorded r (now (buffer .exit)) ≡ lent (runSays repeat (now (lengths .entry)) (length (now (buffer .entry))) (now (script .entry))) (now (buffer .entry)) ⌝ }
+{
+    match script::check_script(script) {
+        ScriptCheck::Queries(_) => run_checked(script, lengths, repeat, buffer),
+        ScriptCheck::TooLong => refused(3, 0),
+        ScriptCheck::Malformed => refused(5, 0),
+    }
 }

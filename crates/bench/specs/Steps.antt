@@ -1,0 +1,78 @@
+-- What the private steps of the code do. No public contract cites these.
+use mathlib.Core.Path.{_≡_}
+use mathlib.Core.Bool.{Bool, true, false}
+use mathlib.Core.List.{List, [], _++_}
+use Prim.Native.Nat.{ℕ, zero, suc, _≤_}
+use lib.ListN.{length, take, drop}
+use Rattle.wire.specs.Answer.{Answer, result, refused}
+use Rattle.group.specs.Group.{groupBytes}
+use Rattle.server_session.specs.Session.{session}
+use Rattle.client_session.specs.Session.{client}
+use Rattle.client_session.specs.declared.PieceAnswer.{PieceAnswer}
+use Rattle.client_session.specs.Piece.{Progress, awaited, sent, over, complete, pieceAnswer}
+use Rattle.script.specs.Script.{Query, script}
+use Rattle.bench.specs.declared.Bench as code
+use Rattle.bench.specs.declared.PartStep.{PartStep}
+use Rattle.bench.specs.declared.Turn as code-turn
+use Rattle.bench.specs.Run.{Bench, Turn, Part, sendRoom, replyRoom, valuesRoom}
+
+-- both sessions as the code holds them
+abbrev pub benchOf : code.Bench → List ℕ → List ℕ → Bench
+benchOf b store lengths = record { client = client (b .client); store = store; server = session (b .server); lengths = drop (b .used) lengths }
+
+-- a turn as the code holds it; it keeps no list of the commands handed out
+abbrev pub turnOf : code-turn.Turn → List ℕ → List ℕ → List ℕ → Turn
+turnOf r out store lengths = record { answer = pieceAnswer (r .answer); text = take (r .written) out; bench = benchOf (r .bench) store lengths; handed = [] }
+
+-- the buffers have the sizes of the definition
+abbrev pub Room : List ℕ → List ℕ → Type 0
+Room out reply = (length out ≡ sendRoom) × (length reply ≡ replyRoom)
+
+-- A turn does what is said.
+pub record Does (t : Turn) (r : code-turn.Turn) (out reply store lengths : List ℕ) : Type 0 where
+  pub answer : pieceAnswer (r .answer) ≡ t .answer
+  pub text : take (r .written) out ≡ t .text
+  pub bench : benchOf (r .bench) store lengths ≡ t .bench
+  pub inside : r .written ≤ length out
+  pub room : Room out reply
+
+abbrev pub isSentAnswer : Answer Progress → Bool
+isSentAnswer (refused n) = false
+isSentAnswer (result awaited) = false
+isSentAnswer (result sent) = true
+isSentAnswer (result over) = false
+isSentAnswer (result complete) = false
+
+abbrev pub isSent : PieceAnswer → Bool
+isSent a = isSentAnswer (pieceAnswer a)
+
+-- the number in what a piece says, 0 for none
+abbrev pub numberOf : {A : Type 0} → Answer A → ℕ
+numberOf (result a) = 0
+numberOf (refused n) = n
+
+abbrev pub pieceNumber : PieceAnswer → ℕ
+pieceNumber a = numberOf (pieceAnswer a)
+
+-- a query's part as the code holds it: the count and the values apart
+abbrev pub partAnswer : ℕ → ℕ → List ℕ → Answer (List ℕ)
+partAnswer zero count text = result (groupBytes count ++ text)
+partAnswer (suc n) count text = refused (suc n)
+
+-- A query does what is said, and its values stand in the lent buffer.
+pub record PartDoes (p : Part) (r : PartStep) (values store lengths : List ℕ) : Type 0 where
+  pub answer : partAnswer (r .number) (r .count) (take (r .written) values) ≡ p .answer
+  pub bench : benchOf (r .bench) store lengths ≡ p .bench
+  pub inside : r .written ≤ length values
+  pub room : length values ≡ valuesRoom
+
+-- the script is well formed, and its queries
+abbrev pub IsScript : List ℕ → Type 0
+IsScript s = (qs : List Query) × (script s ≡ result qs)
+
+abbrev pub queriesOf : Answer (List Query) → List Query
+queriesOf (result qs) = qs
+queriesOf (refused n) = []
+
+abbrev pub queriesIn : List ℕ → List Query
+queriesIn s = queriesOf (script s)

@@ -1,0 +1,152 @@
+// One query of a script, from its start to its values.
+use crate::Bench;
+use crate::PartStep;
+use crate::Turn;
+use crate::turns;
+use client_session::ClientSession;
+use client_session::FinishAnswer;
+use client_session::PieceAnswer;
+use client_session::StartStep;
+use query::EcuCount;
+ghost use mathlib.Core.Path.{_≡_};
+ghost use mathlib.Core.List.{List, []};
+ghost use Prim.Native.Nat.{ℕ, _≤_};
+ghost use lib.ListN.{length};
+ghost use Rattle.query.specs.Query.{countOf};
+ghost use Rattle.client_session.specs.Session.{client, lent};
+ghost use Rattle.client_session.specs.Start.{startServed};
+ghost use Rattle.bench.specs.Run.{sendRoom, valuesRoom, startSays, asking, finished};
+ghost use Rattle.bench.specs.Steps.{benchOf, turnOf, Room, Does, pieceNumber, PartDoes};
+
+// The number of ECUs that a query waits for, from its count+1 in a script.
+fn ecu_count(count: u16) -> EcuCount
+    requires { ⌜ count ≤ 256 ⌝ }
+    ensures { λ r. ⌜ countOf r ≡ count ⌝ }
+{
+    if count == 0 {
+        return EcuCount::Any;
+    }
+    EcuCount::Given((count - 1) as u8)
+}
+
+// Starts a query: one PID through `query_pid`, more through `query_pids`.
+fn start(session: ClientSession, pids: &[u8], count: u16, out: &mut [u8]) -> StartStep
+    requires { ⌜ (count ≤ 256) × (length (now out) ≡ sendRoom) ⌝ }
+    ensures { λ r. ⌜ startServed r (now (out .exit)) ≡ lent (startSays (client session) (now (pids .entry)) count) (now (out .entry)) ⌝ }
+{
+    let ecus = ecu_count(count);
+    if pids.len() == 1 {
+        return session.query_pid(pids[0], ecus, out);
+    }
+    session.query_pids(pids, ecus, out)
+}
+
+// Asks a query; a repeat that meets `?` is followed by the query in full.
+pub fn ask(
+    bench: Bench,
+    pids: &[u8],
+    count: u16,
+    list: &[u8],
+    lengths: &[u8],
+    out: &mut [u8],
+    reply: &mut [u8],
+    store: &mut [u8],
+) -> Turn
+    requires { ⌜ (count ≤ 256) × Room (now out) (now reply) ⌝ }
+    ensures { λ r. ⌜ Does (asking (benchOf bench (now (store .entry)) (now (lengths .entry))) (startSays (client (bench .client)) (now (pids .entry)) count) (now (list .entry))) r (now (out .exit)) (now (reply .exit)) (now (store .exit)) (now (lengths .entry)) ⌝ }
+{
+    let session = bench.client;
+    let server = bench.server;
+    let begun = start(session, pids, count, out);
+    let client = begun.session;
+    let waiting = Bench {
+        client,
+        server,
+        used: bench.used,
+    };
+    let first = turns::turn(waiting, begun.written, list, lengths, out, reply, store);
+    turns::onward(first, 1, list, lengths, out, reply, store)
+}
+
+// The number of document 01 in what a piece says, 0 for none.
+pub fn piece_number(answer: PieceAnswer) -> u8
+    ensures { λ r. ⌜ r ≡ pieceNumber answer ⌝ }
+{
+    match answer {
+        PieceAnswer::Awaited => 0,
+        PieceAnswer::Sent => 0,
+        PieceAnswer::Over => 0,
+        PieceAnswer::Complete => 0,
+        PieceAnswer::OutOfTurn => 1,
+        PieceAnswer::TooLong => 3,
+        PieceAnswer::SmallBuffer => 6,
+        PieceAnswer::Failed => 7,
+        PieceAnswer::TooMuch => 8,
+        PieceAnswer::NotAscii => 9,
+    }
+}
+
+// A number ends the run.
+fn ended(number: u8, bench: Bench) -> PartStep
+    ensures { λ r. ⌜ r ≡ record { number = number; count = 0; written = 0; bench = bench } ⌝ }
+{
+    PartStep {
+        number,
+        count: 0,
+        written: 0,
+        bench,
+    }
+}
+
+// Finishes a query whose reply is complete: its values stand in the lent buffer.
+pub fn finish(asked: Turn, store: &[u8], values: &mut [u8]) -> PartStep
+    requires { ⌜ length (now values) ≡ valuesRoom ⌝ }
+    ensures { λ r. ⌜ (lengths : List ℕ) → PartDoes (finished (turnOf asked [] (now (store .entry)) lengths)) r (now (values .exit)) (now (store .entry)) lengths ⌝ }
+{
+    let answer = asked.answer;
+    let bench = asked.bench;
+    let number = piece_number(answer);
+    if number != 0 {
+        return ended(number, bench);
+    }
+    let session = bench.client;
+    let server = bench.server;
+    let step = session.finish(store, values);
+    let client = step.session;
+    let next = Bench {
+        client,
+        server,
+        used: bench.used,
+    };
+    let said = step.answer;
+    match said {
+        FinishAnswer::Values(count) => PartStep {
+            number: 0,
+            count,
+            written: step.written,
+            bench: next,
+        },
+        FinishAnswer::OutOfTurn => ended(1, next),
+        FinishAnswer::SmallBuffer => ended(6, next),
+        FinishAnswer::NotAscii => ended(9, next),
+    }
+}
+
+// Asks a query and finishes it.
+pub fn part(
+    bench: Bench,
+    pids: &[u8],
+    count: u16,
+    list: &[u8],
+    lengths: &[u8],
+    out: &mut [u8],
+    reply: &mut [u8],
+    store: &mut [u8],
+    values: &mut [u8],
+) -> PartStep
+    requires { ⌜ (count ≤ 256) × Room (now out) (now reply) × (length (now values) ≡ valuesRoom) ⌝ }
+    ensures { λ r. ⌜ PartDoes (finished (asking (benchOf bench (now (store .entry)) (now (lengths .entry))) (startSays (client (bench .client)) (now (pids .entry)) count) (now (list .entry)))) r (now (values .exit)) (now (store .exit)) (now (lengths .entry)) × Room (now (out .exit)) (now (reply .exit)) ⌝ }
+{
+    let asked = ask(bench, pids, count, list, lengths, out, reply, store);
+    finish(asked, store, values)
+}

@@ -1,0 +1,107 @@
+// One command of the client, and those that it sends of its own accord.
+use crate::Bench;
+use crate::Turn;
+use client_session::ClientSession;
+use client_session::PieceAnswer;
+use server_session::ServerSession;
+ghost use mathlib.Core.Path.{_≡_};
+ghost use Prim.Native.Nat.{_≤_};
+ghost use lib.ListN.{length, take};
+ghost use Rattle.bench.specs.Run.{freshStore, turn, onward, initialised};
+ghost use Rattle.bench.specs.Steps.{isSent, benchOf, turnOf, Room, Does};
+
+// The client's first n bytes of out go to the server, and all that it sends for them comes back in pieces.
+pub fn turn(
+    bench: Bench,
+    n: usize,
+    list: &[u8],
+    lengths: &[u8],
+    out: &mut [u8],
+    reply: &mut [u8],
+    store: &mut [u8],
+) -> Turn
+    requires { ⌜ (n ≤ length (now out)) × Room (now out) (now reply) ⌝ }
+    ensures { λ r. ⌜ Does (turn (benchOf bench (now (store .entry)) (now (lengths .entry))) (take n (now (out .entry))) (now (list .entry))) r (now (out .exit)) (now (reply .exit)) (now (store .exit)) (now (lengths .entry)) ⌝ }
+{
+    let server = bench.server;
+    let client = bench.client;
+    let heard = exchange::exchange(server, &out[..n], list, reply);
+    let end = heard.written;
+    let next = heard.session;
+    let given = exchange::deliver(client, &reply[..end], lengths, bench.used, store, out);
+    let answer = given.answer;
+    let session = given.session;
+    Turn {
+        answer,
+        written: given.written,
+        bench: Bench {
+            client: session,
+            server: next,
+            used: given.used,
+        },
+    }
+}
+
+// Whether the client has a further command to send.
+fn is_sent(answer: PieceAnswer) -> bool
+    ensures { λ r. ⌜ r ≡ isSent answer ⌝ }
+{
+    if let PieceAnswer::Sent = answer {
+        return true;
+    }
+    false
+}
+
+// At most n further commands.
+pub fn onward(
+    from: Turn,
+    n: usize,
+    list: &[u8],
+    lengths: &[u8],
+    out: &mut [u8],
+    reply: &mut [u8],
+    store: &mut [u8],
+) -> Turn
+    requires { ⌜ (from .written ≤ length (now out)) × Room (now out) (now reply) ⌝ }
+    ensures { λ r. ⌜ Does (onward n (turnOf from (now (out .entry)) (now (store .entry)) (now (lengths .entry))) (now (list .entry))) r (now (out .exit)) (now (reply .exit)) (now (store .exit)) (now (lengths .entry)) ⌝ }
+{
+    let mut at = from;
+    let mut left = n;
+    while 0 < left {
+        let answer = at.answer;
+        if !is_sent(answer) {
+            return at;
+        }
+        let bench = at.bench;
+        at = turn(bench, at.written, list, lengths, out, reply, store);
+        left -= 1;
+    }
+    at
+}
+
+// A fresh client and a fresh server after the initialisation. The echo of ATZ and its answer arrive as one piece.
+pub fn initialise(repeat: bool, lengths: &[u8], out: &mut [u8], reply: &mut [u8], store: &mut [u8]) -> Turn
+    requires { ⌜ Room (now out) (now reply) × (now store ≡ freshStore) ⌝ }
+    ensures { λ r. ⌜ Does (initialised repeat (now (lengths .entry))) r (now (out .exit)) (now (reply .exit)) (now (store .exit)) (now (lengths .entry)) ⌝ }
+{
+    let fresh = ClientSession::new(true, repeat);
+    let start = fresh.init(out);
+    let n = start.written;
+    let waiting = start.session;
+    let heard = exchange::exchange(ServerSession::new(), &out[..n], b"", reply);
+    let end = heard.written;
+    let server = heard.session;
+    let step = waiting.piece(&reply[..end], store, out);
+    let answer = step.answer;
+    let client = step.session;
+    let from = Turn {
+        answer,
+        written: step.written,
+        bench: Bench {
+            client,
+            server,
+            used: 0,
+        },
+    };
+    onward(from, 5, b"", lengths, out, reply, store)
+}
