@@ -101,7 +101,7 @@ fn ended(number: u8, bench: Bench) -> PartStep
 // Finishes a query whose reply is complete: its values stand in the lent buffer.
 pub fn finish(asked: Turn, store: &[u8], values: &mut [u8]) -> PartStep
     requires { ⌜ length (now values) ≡ valuesRoom ⌝ }
-    ensures { λ r. ⌜ (lengths : List ℕ) → PartDoes (finished (turnOf asked [] (now (store .entry)) lengths)) r (now (values .exit)) (now (store .entry)) lengths ⌝ }
+    ensures { λ r. ⌜ ((lengths : List ℕ) → PartDoes (finished (turnOf asked [] (now (store .entry)) lengths)) r (now (values .exit)) (now (store .entry)) lengths) ⌝ }
 {
     let answer = asked.answer;
     let bench = asked.bench;
