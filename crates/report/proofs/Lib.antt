@@ -1,0 +1,4 @@
+pub mod LineLaws
+pub mod PartLaws
+pub mod ReportLaws
+pub mod Worked

@@ -1,0 +1,66 @@
+-- `report::put_hex_line` meets its contract. The invariant: the bytes that are left, written from here, give the final buffer.
+use mathlib.Core.Path.{_≡_, refl, sym, _∙_}
+use Prim.Native.Nat.{_+_, _-_, _≤_, min}
+use native.Mathlib.Omega.{arith}
+use lib.Seq.{sets}
+use lib.ListN.{length, drop}
+use borrow.Author.Needs.{needs}
+use Rattle.wire.proofs.PutLaws.{put-length}
+use Rattle.wire.specs.Put.{Put}
+use Rattle.report.specs.Report.{hexLine}
+use Rattle.report.proofs.LineLaws.{line-next, line-end}
+use Rattle.report.proofs.put_hex_line.Statement.{statement}
+use Rattle.report.proofs.put_hex_line.Tie as tie
+
+abbrev Inv-loop : tie.InvT-loop
+Inv-loop out₀ at bytes at₀ i₀ out at' i = (i ≤ length bytes) × (length out ≡ length out₀) × Put out at' (hexLine (drop i bytes)) (at + min (length (hexLine bytes)) (length out₀ - at)) (sets out₀ at (hexLine bytes))
+
+abbrev μ-loop : tie.MeasureT-loop
+μ-loop out₀ at bytes at₀ i₀ out at' i = length bytes - i
+
+loop-holds : tie.Need-loop-holds Inv-loop μ-loop
+loop-holds c = (omega arith, refl, record { next = refl; bytes = refl })
+
+shared-slice-read-put-hex-byte : tie.Need-shared-slice-read-put-hex-byte Inv-loop μ-loop
+shared-slice-read-put-hex-byte c = search needs
+
+put-hex-byte-requires : tie.Need-put-hex-byte-requires Inv-loop μ-loop
+put-hex-byte-requires c κs = search needs
+
+add-i : tie.Need-add-i Inv-loop μ-loop
+add-i c = search needs
+
+separator-requires : tie.Need-separator-requires Inv-loop μ-loop
+separator-requires c κs = search needs
+
+put-byte-requires : tie.Need-put-byte-requires Inv-loop μ-loop
+put-byte-requires c κs = search needs
+
+loop-less : tie.Need-loop-less Inv-loop μ-loop
+loop-less c = omega (arith, c .before .before .before .before .before .before .before .before .before .before .loop-test .taken)
+
+loop-again : tie.Need-loop-again Inv-loop μ-loop
+loop-again c = (omega arith, put-length (c .before .before .put-byte .ensures) ∙ put-length (c .before .before .before .before .before .before .before .put-hex-byte .ensures) ∙ c .before .before .before .before .before .before .before .before .before .before .before .loop .inv .1, line-next _ _ (c .before .before .before .before .before .before .before .before .before .before .before .loop .inv .2) (c .before .before .before .before .before .before .before .before .before .before .loop-test .taken) (c .before .before .before .before .before .before .before .put-hex-byte .ensures) (rw (c .before .before .before .separator .ensures) at (c .before .before .put-byte .ensures)))
+
+same-length : tie.Need-same-length Inv-loop μ-loop
+same-length c = c .before .loop .inv .1
+
+returns : tie.Need-returns Inv-loop μ-loop
+returns c = let q = line-end _ _ (c .before .loop .inv .2) (c .loop-test .left) in record { next = sym (q .0); bytes = sym (q .1) }
+
+pub put-hex-line-spec : {M : Type 1} → statement M
+put-hex-line-spec =
+    tie.close
+    (tie.spec
+    Inv-loop
+    μ-loop
+    loop-holds
+    shared-slice-read-put-hex-byte
+    put-hex-byte-requires
+    add-i
+    separator-requires
+    put-byte-requires
+    loop-less
+    loop-again
+    same-length
+    returns)

@@ -1,0 +1,36 @@
+-- `report::put_refused` meets its contract: the word, the number, LF.
+use borrow.Author.Needs.{needs}
+use Rattle.wire.proofs.PutLaws.{put-then}
+use Rattle.report.specs.Report.{refusedLine}
+use Rattle.report.proofs.put_refused.Statement.{statement}
+use Rattle.report.proofs.put_refused.Tie as tie
+
+slice-aggregate-put : tie.Need-slice-aggregate-put
+slice-aggregate-put c = search needs
+
+put-requires : tie.Need-put-requires
+put-requires c κs = search needs
+
+put-decimal-requires : tie.Need-put-decimal-requires
+put-decimal-requires c κs = search needs
+
+put-byte-requires : tie.Need-put-byte-requires
+put-byte-requires c κs = search needs
+
+same-length : tie.Need-same-length
+same-length c = search needs
+
+returns : tie.Need-returns
+unfolding refusedLine
+returns c = put-then (c .before .before .before .before .before .before .before .before .before .before .put .ensures) (put-then (c .before .before .before .before .before .before .put-decimal .ensures) (c .before .before .put-byte .ensures))
+
+pub put-refused-spec : {M : Type 1} → statement M
+put-refused-spec =
+    tie.close
+    (tie.spec
+    slice-aggregate-put
+    put-requires
+    put-decimal-requires
+    put-byte-requires
+    same-length
+    returns)
