@@ -1,0 +1,75 @@
+-- `bench::turns::turn` meets its contract.
+use mathlib.Core.Path.{_≡_, sym}
+use mathlib.Core.List.{List}
+use Prim.Native.Nat.{_≤_}
+use native.Mathlib.Omega.{arith}
+use lib.ListN.{length, take}
+use lib.Seq.{length-take-le}
+use borrow.Author.Needs.{needs}
+use Rattle.server_session.specs.Session.{session}
+use Rattle.exchange.proofs.ExchangeLaws.{exchange-written}
+use Rattle.bench.proofs.TurnLaws.{reply-length, turn-does}
+use Rattle.bench.proofs.turns.turn.Statement.{statement}
+use Rattle.bench.proofs.turns.turn.Tie as tie
+
+-- a query's text has a place for 18 bytes
+short : (s : tie.Start) → length (s .args .bench .client .query .bytes) ≡ 18
+short s = search needs
+
+-- what the server sent is inside its buffer
+inside : (k : tie.After-exchange) → k .exchange .result .written ≤ length (k .exchange .last .1 .1 .1 .0)
+inside k =
+    let s = k .before .before .before .before .before .before .before .before .before .before in
+    let command = take (s .args .n) (s .args .out .now) in
+    let list = s .args .list .now in
+    let reply = s .args .reply .now in
+    omega (arith, exchange-written (session (s .args .bench .server)) command list reply (k .exchange .last .1 .1 .1 .0) (k .exchange .result) (k .exchange .ensures), reply-length (session (s .args .bench .server)) command list reply (k .exchange .last .1 .1 .1 .0) (k .exchange .result) (k .exchange .ensures))
+
+slice-reshare-prefix-exchange : tie.Need-slice-reshare-prefix-exchange
+slice-reshare-prefix-exchange c = search needs
+
+slice-aggregate-exchange : tie.Need-slice-aggregate-exchange
+slice-aggregate-exchange c = sym (length-take-le _ _ (c .before .before .before .before .before .before .before .before .pre .0))
+
+exchange-requires : tie.Need-exchange-requires
+exchange-requires c κs = search needs
+
+slice-reshare-prefix-deliver : tie.Need-slice-reshare-prefix-deliver
+slice-reshare-prefix-deliver c = inside (c .before .before .before)
+
+slice-aggregate-deliver : tie.Need-slice-aggregate-deliver
+slice-aggregate-deliver c = sym (length-take-le _ _ (inside (c .before .before .before .before)))
+
+deliver-requires : tie.Need-deliver-requires
+deliver-requires c κs = search needs
+
+same-length : tie.Need-same-length
+same-length c = search needs
+
+same-length-2 : tie.Need-same-length-2
+same-length-2 c = search needs
+
+same-length-3 : tie.Need-same-length-3
+same-length-3 c = search needs
+
+returns : tie.Need-returns
+returns c =
+    let d = c .before .before .before .before .before in
+    let x = d .before .before .before .before .before .before .before in
+    let s = x .before .before .before .before .before .before .before .before .before .before in
+    turn-does _ (short s) _ _ _ _ _ _ _ _ _ (x .exchange .result) (d .deliver .result) (s .pre .1) (x .exchange .ensures) (d .deliver .ensures)
+
+pub turn-spec : {M : Type 1} → statement M
+turn-spec =
+    tie.close
+    (tie.spec
+    slice-reshare-prefix-exchange
+    slice-aggregate-exchange
+    exchange-requires
+    slice-reshare-prefix-deliver
+    slice-aggregate-deliver
+    deliver-requires
+    same-length
+    same-length-2
+    same-length-3
+    returns)
