@@ -1,1 +1,2 @@
 pub mod Worked
+mod AskLaws
