@@ -1,2 +1,3 @@
 pub mod Worked
-pub mod TurnLaws
+mod TurnLaws
+mod AskLaws

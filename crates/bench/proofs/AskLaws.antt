@@ -1,0 +1,175 @@
+-- Laws of one query: its start, and its end by what its reply said.
+use mathlib.Core.Path.{_≡_, refl, sym, ap, _∙_}
+use mathlib.Core.List.{List, [], _∷_, _++_}
+use Prim.Native.Nat.{ℕ, zero, suc, _≤_}
+use native.Mathlib.Omega.{arith}
+use lib.Dec.{ltb}
+use lib.ListN.{length, take, getD}
+use lib.Seq.{sets, length-sets}
+use borrow.Author.Tests.{ltb-false}
+use Rattle.wire.specs.Answer.{Answer, result, refused}
+use Rattle.wire.specs.Put.{Put}
+use Rattle.wire.specs.Text.{high}
+use Rattle.wire.proofs.Cases.{by-test}
+use Rattle.group.specs.Group.{groupBytes}
+use Rattle.reply_lines.specs.Decode.{replyLines}
+use Rattle.reply_values.specs.Values.{valuesOf}
+use Rattle.reply_values.specs.Learn.{lengthsAfter}
+use Rattle.client_session.specs.declared.StartStep.{StartStep}
+use Rattle.client_session.specs.declared.PieceAnswer.{PieceAnswer}
+use Rattle.client_session.specs.declared.PieceAnswer.the-variants.{Awaited, Sent, Over, Complete, OutOfTurn, TooLong, SmallBuffer, Failed, TooMuch, NotAscii}
+use Rattle.client_session.specs.declared.FinishStep.{FinishStep}
+use Rattle.client_session.specs.Session.{Client, client, Said, Served, lent}
+use Rattle.client_session.specs.Start.{queryPidSays, queryPidsSays, startServed}
+use Rattle.client_session.specs.Piece.{complete, pieceAnswer, replyIn}
+use Rattle.client_session.specs.Finish.{isComplete, finished as values-said, roomFor, finishReply, finishSays, finishAnswer, finishServed}
+use Rattle.client_session.proofs.StartLaws.{pid-fits, pids-fits}
+use Rattle.client_session.proofs.StepLaws.{put-kept}
+use Rattle.bench.specs.declared.Bench as code
+use Rattle.bench.specs.declared.Turn as code-turn
+use Rattle.bench.specs.declared.PartStep.{PartStep}
+use Rattle.bench.specs.Run.{Turn, Part, sendRoom, valuesRoom, startSays, partOf, finishing, finished}
+use Rattle.bench.specs.Steps.{benchOf, turnOf, numberOf, pieceNumber, partAnswer, PartDoes}
+
+-- a text that was written at the front of a buffer with room for it stands there
+front-holds : (out t left : List ℕ) (n : ℕ) → n ≡ length t → left ≡ sets out 0 t → length t ≤ length out → take n left ≡ t
+front-holds out t left n e q few = let p : Put out 0 t n left = record { next = omega arith; bytes = q } in put-kept p few
+
+-- ---- the start
+
+module _ (c : Client) (count : ℕ) where
+  start-one : (pids : List ℕ) → length pids ≡ 1 → startSays c pids count ≡ queryPidSays sendRoom c (getD pids 0 0) count
+  start-one [] e = absurd (omega arith)
+  start-one (p ∷ []) e = refl
+  start-one (p ∷ q ∷ pids) e = absurd (omega arith)
+
+  start-other : (pids : List ℕ) → (length pids ≡ 1 → ⊥) → startSays c pids count ≡ queryPidsSays sendRoom c pids count
+  start-other [] e = refl
+  start-other (p ∷ []) e = absurd (e refl)
+  start-other (p ∷ q ∷ pids) e = refl
+
+  pub start-fits : (pids : List ℕ) → length (startSays c pids count .text) ≤ sendRoom
+  start-fits [] = pids-fits sendRoom c [] count
+  start-fits (p ∷ []) = pid-fits sendRoom c p count
+  start-fits (p ∷ q ∷ pids) = pids-fits sendRoom c (p ∷ q ∷ pids) count
+
+  -- a start as a call on the session makes it: its count and its room are those of the definition
+  module _ (out pids : List ℕ) (n : ℕ) (same : n ≡ count) (size : length out ≡ sendRoom) (s : StartStep) (left : List ℕ) where
+    pub one-started : length pids ≡ 1 → startServed s left ≡ lent (queryPidSays (length out) c (getD pids 0 0) n) out → startServed s left ≡ lent (startSays c pids count) out
+    one-started one e = rw (start-one pids one, ← same, ← size) e
+
+    pub several-started : (length pids ≡ 1 → ⊥) → startServed s left ≡ lent (queryPidsSays (length out) c pids n) out → startServed s left ≡ lent (startSays c pids count) out
+    several-started other e = rw (start-other pids other, ← same, ← size) e
+
+-- ---- the end
+
+-- the values fit
+room-fits : (room : ℕ) (c : Client) (d : Said ℕ) → length (roomFor room c d .text) ≤ room
+room-fits room c d = by-test (ltb room (length (d .text))) (λ e. rw e (omega arith)) (λ e. rw e (ltb-false room (length (d .text)) e))
+
+reply-fits : (room : ℕ) (c : Client) (reply : List ℕ) → length (finishReply room c reply .text) ≤ room
+reply-fits room c reply =
+    let ls = replyLines (c .known .framing) reply in
+    let lengths = lengthsAfter (c .query .several) (c .query .pids) (c .known .lengths) ls in
+    room-fits room c (values-said c lengths (valuesOf lengths ls))
+
+pub finish-fits : (room : ℕ) (c : Client) (store : List ℕ) → length (finishSays room c store .text) ≤ room
+unfolding finishSays
+finish-fits room c store =
+    by-test (isComplete (c .under))
+    (λ turn.
+    by-test (ltb (length store) 4096)
+    (λ small. rw (turn, small) (omega arith))
+    (λ large. by-test (high (replyIn c store)) (λ e. rw (turn, large, e) (omega arith)) (λ e. rw (turn, large, e) (reply-fits room c (replyIn c store)))))
+    (λ early. rw early (omega arith))
+
+-- what a piece says, by its number
+number-refused : {A : Type 0} (a : Answer A) (n : ℕ) → n ≡ numberOf a → (n ≡ 0 → ⊥) → a ≡ refused n
+number-refused (result x) n e some = absurd (some e)
+number-refused (refused m) n e some = ap refused (sym e)
+
+no-number : (a : PieceAnswer) (t : Turn) → pieceNumber a ≡ 0 → finishing t (pieceAnswer a) ≡ finishing t (result complete)
+no-number Awaited t e = refl
+no-number Sent t e = refl
+no-number Over t e = refl
+no-number Complete t e = refl
+no-number OutOfTurn t e = absurd (omega arith)
+no-number TooLong t e = absurd (omega arith)
+no-number SmallBuffer t e = absurd (omega arith)
+no-number Failed t e = absurd (omega arith)
+no-number TooMuch t e = absurd (omega arith)
+no-number NotAscii t e = absurd (omega arith)
+
+part-refused : (n count : ℕ) (text : List ℕ) → (n ≡ 0 → ⊥) → partAnswer n count text ≡ refused n
+part-refused zero count text some = absurd (some refl)
+part-refused (suc n) count text some = refl
+
+-- a number ends the query
+abbrev pub endedAt : ℕ → code.Bench → PartStep
+endedAt n b = record { number = n; count = 0; written = 0; bench = b }
+
+-- a part with the number and the sessions that are said
+ends : (p : Part) (r : PartStep) (n : ℕ) (b : code.Bench) (values store lengths : List ℕ) → length values ≡ valuesRoom → r ≡ endedAt n b →
+    (n ≡ 0 → ⊥) → p .answer ≡ refused n → benchOf b store lengths ≡ p .bench → PartDoes p r values store lengths
+ends p r n b values store lengths size e some a same =
+    rw e (record { answer = part-refused n 0 [] some ∙ sym a; bench = same; inside = omega arith; room = size })
+
+-- the reply got a number
+pub reply-refused : (asked : code-turn.Turn) (r : PartStep) (n : ℕ) (values store lengths : List ℕ) → length values ≡ valuesRoom → r ≡ endedAt n (asked .bench) →
+    n ≡ pieceNumber (asked .answer) → (n ≡ 0 → ⊥) → PartDoes (finished (turnOf asked [] store lengths)) r values store lengths
+reply-refused asked r n values store lengths size e number some =
+    rw (number-refused (pieceAnswer (asked .answer)) n number some) (ends _ r n (asked .bench) values store lengths size e some refl refl)
+
+-- the reply got none: the query is finished by the step s
+module _ (asked : code-turn.Turn) (store values : List ℕ) (size : length values ≡ valuesRoom) (none : pieceNumber (asked .answer) ≡ 0) (s : FinishStep) (left : List ℕ)
+    (e : finishServed s left ≡ lent (finishSays (length values) (client (asked .bench .client)) store) values) where
+  abbrev says : Said ℕ
+  says = finishSays valuesRoom (client (asked .bench .client)) store
+
+  abbrev next : code.Bench
+  next = record { client = s .session; server = asked .bench .server; used = asked .bench .used }
+
+  does : finishServed s left ≡ lent says values
+  does = e ∙ ap (λ room. lent (finishSays room (client (asked .bench .client)) store) values) size
+
+  few : length (says .text) ≤ length values
+  few = omega (arith, size, finish-fits valuesRoom (client (asked .bench .client)) store)
+
+  written : s .written ≡ length (says .text)
+  written = ap (λ (x : Served ℕ). x .written) does
+
+  stands : left ≡ sets values 0 (says .text)
+  stands = ap (λ (x : Served ℕ). x .out) does
+
+  same-size : length left ≡ valuesRoom
+  same-size = ap length stands ∙ length-sets values 0 (says .text) ∙ size
+
+  text : take (s .written) left ≡ says .text
+  text = front-holds values (says .text) left (s .written) written stands few
+
+  answered : (a : Answer ℕ) → finishAnswer (s .answer) ≡ a → says .answer ≡ a
+  answered a k = sym (ap (λ (x : Served ℕ). x .answer) does) ∙ k
+
+  same : (lengths : List ℕ) → benchOf next store lengths ≡ finishing (turnOf asked [] store lengths) (result complete) .bench
+  same lengths =
+      let c = ap (λ (x : Served ℕ). x .next) does in
+      λ i. record { client = c i; store = store; server = benchOf (asked .bench) store lengths .server; lengths = benchOf (asked .bench) store lengths .lengths }
+
+  -- its values are in the lent buffer
+  pub values-stand : (n : ℕ) → finishAnswer (s .answer) ≡ result n → (lengths : List ℕ) →
+      PartDoes (finished (turnOf asked [] store lengths)) (record { number = 0; count = n; written = s .written; bench = next }) left store lengths
+  values-stand n k lengths =
+      rw (no-number (asked .answer) (turnOf asked [] store lengths) none)
+      (record {
+        answer = ap (λ t. result (groupBytes n ++ t)) text ∙ sym (ap (partOf says) (answered (result n) k));
+        bench = same lengths;
+        inside = omega (arith, written, few, size, same-size);
+        room = same-size;
+      })
+
+  -- it got a number
+  pub finish-refused : (r : PartStep) (n : ℕ) → r ≡ endedAt n next → (n ≡ 0 → ⊥) → finishAnswer (s .answer) ≡ refused n → (lengths : List ℕ) →
+      PartDoes (finished (turnOf asked [] store lengths)) r left store lengths
+  finish-refused r n z some k lengths =
+      rw (no-number (asked .answer) (turnOf asked [] store lengths) none)
+      (ends _ r n next left store lengths same-size z some (ap (partOf says) (answered (refused n) k)) (same lengths))
