@@ -1,3 +1,4 @@
 pub mod Worked
 mod TurnLaws
+mod OnwardLaws
 mod AskLaws

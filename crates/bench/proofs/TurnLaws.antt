@@ -26,7 +26,7 @@ use Rattle.exchange.proofs.DeliverLaws.{delivered-fits}
 use Rattle.bench.specs.declared.Bench as code
 use Rattle.bench.specs.declared.Turn as code-turn
 use Rattle.bench.specs.Run.{sendRoom, replyRoom, Bench, Turn, turned, turn, later, sending, onward}
-use Rattle.bench.specs.Steps.{benchOf, turnOf, Room, Does, isSentAnswer}
+use Rattle.bench.specs.Steps.{benchOf, turnOf, Room, Back, Does, isSentAnswer}
 
 -- a text that fits stands at the front of a buffer
 front : (buffer text : List ℕ) → length text ≤ length buffer → take (length text) (sets buffer 0 text) ≡ text
@@ -47,62 +47,60 @@ module _ (s : Session) (command list reply reply₁ : List ℕ) (x : ExchangeSte
   reply-length = ap (λ (v : exchange.Served). length (v .out)) e ∙ length-sets reply 0 (exchanged (length reply) s command list .text)
 
 -- and what the client sends next in its own
-module _ (c : ClientSession) (short : length (c .query .bytes) ≡ 18) (store ks r out lengths store₁ out₁ : List ℕ) (d : Delivery)
-    (e : deliveryReceived lengths d store₁ out₁ ≡ receiving (delivered (length out) (client c) store ks r) out) where
-  abbrev said : Delivered
-  said = delivered (length out) (client c) store ks r
+module _ (c : ClientSession) (short : length (c .query .bytes) ≡ 18) (server : ServerSession) (store ks r out lengths store₁ out₁ : List ℕ) (d : Delivery)
+    (size : length out ≡ sendRoom) (e : deliveryReceived lengths d store₁ out₁ ≡ receiving (delivered (length out) (client c) store ks r) out) where
+  said : deliveryReceived lengths d store₁ out₁ ≡ receiving (delivered sendRoom (client c) store ks r) out
+  said = e ∙ ap (λ n. receiving (delivered n (client c) store ks r) out) size
 
-  next-fits : length (said .said .text) ≤ length out
-  next-fits = delivered-fits (length out) (client c) store ks r (omega (arith, text-short (c .query) short))
+  abbrev text : List ℕ
+  text = delivered sendRoom (client c) store ks r .said .text
 
-  pub next-text : take (d .written) out₁ ≡ said .said .text
-  next-text = (λ i. take (e i .served .written) (e i .served .out)) ∙ front out (said .said .text) next-fits
+  next-fits : length text ≤ length out
+  next-fits = omega (arith, size, delivered-fits sendRoom (client c) store ks r (omega (arith, text-short (c .query) short)))
 
-  pub next-inside : d .written ≤ length out₁
-  next-inside =
-      let w : d .written ≡ length (said .said .text) = ap (λ (v : Received). v .served .written) e in
-      let o : length out₁ ≡ length out = ap (λ (v : Received). length (v .served .out)) e ∙ length-sets out 0 (said .said .text) in
-      omega (arith, next-fits)
+  out-size : length out₁ ≡ length out
+  out-size = ap (λ (v : Received). length (v .served .out)) said ∙ length-sets out 0 text
+
+  pub back-does : Back (delivered sendRoom (client c) store ks r) server
+      (record { answer = d .answer; written = d .written; bench = record { client = d .session; server = server; used = d .used } }) out₁ store₁ lengths
+  back-does = record {
+    answer = ap (λ (v : Received). v .served .answer) said;
+    text = (λ i. take (said i .served .written) (said i .served .out)) ∙ front out text next-fits;
+    next = ap (λ (v : Received). v .served .next) said;
+    kept = ap (λ (v : Received). v .store) said;
+    left = ap (λ (v : Received). v .lengths) said;
+    waits = refl;
+    inside = let w : d .written ≡ length text = ap (λ (v : Received). v .served .written) said in omega (arith, next-fits, out-size);
+    size = out-size ∙ size;
+  }
 
 -- the two together
-module _ (b : code.Bench) (short : length (b .client .query .bytes) ≡ 18) (command list lengths out reply store out₁ reply₁ store₁ : List ℕ) (x : ExchangeStep) (d : Delivery)
-    (room : Room out reply)
+module _ (b : code.Bench) (command list lengths reply store out₁ reply₁ store₁ : List ℕ) (x : ExchangeStep) (r : code-turn.Turn) (size : length reply ≡ replyRoom)
     (heard : exchangeServed x reply₁ ≡ exchange.lent (exchanged (length reply) (session (b .server)) command list) reply)
-    (given : deliveryReceived lengths d store₁ out₁ ≡
-        receiving (delivered (length out) (client (b .client)) store (drop (b .used) lengths) (take (x .written) reply₁)) out) where
+    (given : Back (delivered sendRoom (client (b .client)) store (drop (b .used) lengths) (take (x .written) reply₁)) (x .session) r out₁ store₁ lengths) where
   abbrev exchanges : Exchanged
   exchanges = exchanged replyRoom (session (b .server)) command list
 
   abbrev delivers : Delivered
   delivers = delivered sendRoom (client (b .client)) store (drop (b .used) lengths) (exchanges .text)
 
-  delivers-is : delivered (length out) (client (b .client)) store (drop (b .used) lengths) (take (x .written) reply₁) ≡ delivers
+  delivers-is : delivered sendRoom (client (b .client)) store (drop (b .used) lengths) (take (x .written) reply₁) ≡ delivers
   delivers-is =
-      let t = reply-text (session (b .server)) command list reply reply₁ x heard in
-      ap (λ r. delivered (length out) (client (b .client)) store (drop (b .used) lengths) r) t ∙
-      (λ i. delivered (room .0 i) (client (b .client)) store (drop (b .used) lengths) (exchanged (room .1 i) (session (b .server)) command list .text))
+      ap (delivered sendRoom (client (b .client)) store (drop (b .used) lengths))
+      (reply-text (session (b .server)) command list reply reply₁ x heard ∙ ap (λ n. exchanged n (session (b .server)) command list .text) size)
 
-  says : {A : Type 0} (f : Delivered → A) →
-      f (delivered (length out) (client (b .client)) store (drop (b .used) lengths) (take (x .written) reply₁)) ≡ f delivers
-  says f = ap f delivers-is
-
-  pub turn-does : Does (turn (benchOf b store lengths) command list)
-      (record { answer = d .answer; written = d .written; bench = record { client = d .session; server = x .session; used = d .used } }) out₁ reply₁ store₁ lengths
+  pub turn-does : Does (turn (benchOf b store lengths) command list) r out₁ reply₁ store₁ lengths
   turn-does =
-      let r = take (x .written) reply₁ in
-      let ks = drop (b .used) lengths in
-      let o : length out₁ ≡ length out =
-      ap (λ (v : Received). length (v .served .out)) given ∙ length-sets out 0 (delivered (length out) (client (b .client)) store ks r .said .text) in
-      let n : session (x .session) ≡ exchanges .next =
-      reply-next (session (b .server)) command list reply reply₁ x heard ∙ ap (λ k. exchanged k (session (b .server)) command list .next) (room .1) in
+      let c = given .next ∙ ap (λ (v : Delivered). v .said .next) delivers-is in
+      let k = given .kept ∙ ap (λ (v : Delivered). v .store) delivers-is in
+      let l = given .left ∙ ap (λ (v : Delivered). v .lengths) delivers-is in
+      let s : session (r .bench .server) ≡ exchanges .next =
+      ap session (given .waits) ∙
+      reply-next (session (b .server)) command list reply reply₁ x heard ∙ ap (λ n. exchanged n (session (b .server)) command list .next) size in
       record {
-        answer = ap (λ (v : Received). v .served .answer) given ∙ says (λ (v : Delivered). v .said .answer);
-        text = next-text (b .client) short store ks r out lengths store₁ out₁ d given ∙ says (λ (v : Delivered). v .said .text);
-        bench =
-            let c = ap (λ (v : Received). v .served .next) given ∙ says (λ (v : Delivered). v .said .next) in
-            let s = ap (λ (v : Received). v .store) given ∙ says (λ (v : Delivered). v .store) in
-            let l = ap (λ (v : Received). v .lengths) given ∙ says (λ (v : Delivered). v .lengths) in
-            λ i. record { client = c i; store = s i; server = n i; lengths = l i };
-        inside = next-inside (b .client) short store ks r out lengths store₁ out₁ d given;
-        room = (o ∙ room .0, reply-length (session (b .server)) command list reply reply₁ x heard ∙ room .1);
+        answer = given .answer ∙ ap (λ (v : Delivered). v .said .answer) delivers-is;
+        text = given .text ∙ ap (λ (v : Delivered). v .said .text) delivers-is;
+        bench = λ i. record { client = c i; store = k i; server = s i; lengths = l i };
+        inside = given .inside;
+        room = (given .size, reply-length (session (b .server)) command list reply reply₁ x heard ∙ size);
       }

@@ -6,10 +6,12 @@ use Prim.Native.Nat.{ℕ, zero, suc, _≤_}
 use lib.ListN.{length, take, drop}
 use Rattle.wire.specs.Answer.{Answer, result, refused}
 use Rattle.group.specs.Group.{groupBytes}
+use Rattle.server_session.specs.declared.ServerSession.{ServerSession}
 use Rattle.server_session.specs.Session.{session}
 use Rattle.client_session.specs.Session.{client}
 use Rattle.client_session.specs.declared.PieceAnswer.{PieceAnswer}
 use Rattle.client_session.specs.Piece.{Progress, awaited, sent, over, complete, pieceAnswer}
+use Rattle.exchange.specs.Deliver.{Delivered}
 use Rattle.script.specs.Script.{Query, script}
 use Rattle.bench.specs.declared.Bench as code
 use Rattle.bench.specs.declared.PartStep.{PartStep}
@@ -27,6 +29,17 @@ turnOf r out store lengths = record { answer = pieceAnswer (r .answer); text = t
 -- the buffers have the sizes of the definition
 abbrev pub Room : List ℕ → List ℕ → Type 0
 Room out reply = (length out ≡ sendRoom) × (length reply ≡ replyRoom)
+
+-- The reply has been delivered, and the server waits.
+pub record Back (d : Delivered) (server : ServerSession) (r : code-turn.Turn) (out store lengths : List ℕ) : Type 0 where
+  pub answer : pieceAnswer (r .answer) ≡ d .said .answer
+  pub text : take (r .written) out ≡ d .said .text
+  pub next : client (r .bench .client) ≡ d .said .next
+  pub kept : store ≡ d .store
+  pub left : drop (r .bench .used) lengths ≡ d .lengths
+  pub waits : r .bench .server ≡ server
+  pub inside : r .written ≤ length out
+  pub size : length out ≡ sendRoom
 
 -- A turn does what is said.
 pub record Does (t : Turn) (r : code-turn.Turn) (out reply store lengths : List ℕ) : Type 0 where

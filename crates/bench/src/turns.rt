@@ -6,9 +6,38 @@ use client_session::PieceAnswer;
 use server_session::ServerSession;
 ghost use mathlib.Core.Path.{_≡_};
 ghost use Prim.Native.Nat.{_≤_};
-ghost use lib.ListN.{length, take};
-ghost use Rattle.bench.specs.Run.{freshStore, turn, onward, initialised};
-ghost use Rattle.bench.specs.Steps.{isSent, benchOf, turnOf, Room, Does};
+ghost use lib.ListN.{length, take, drop};
+ghost use Rattle.client_session.specs.Session.{client};
+ghost use Rattle.exchange.specs.Deliver.{delivered};
+ghost use Rattle.bench.specs.Run.{sendRoom, freshStore, turn, onward, initialised};
+ghost use Rattle.bench.specs.Steps.{isSent, benchOf, turnOf, Room, Back, Does};
+
+// What the server sent goes back to the client in pieces.
+fn back(
+    session: ClientSession,
+    server: ServerSession,
+    sent: &[u8],
+    lengths: &[u8],
+    used: usize,
+    out: &mut [u8],
+    store: &mut [u8],
+) -> Turn
+    requires { ⌜ length (now out) ≡ sendRoom ⌝ }
+    ensures { λ r. ⌜ Back (delivered sendRoom (client session) (now (store .entry)) (drop used (now (lengths .entry))) (now (sent .entry))) server r (now (out .exit)) (now (store .exit)) (now (lengths .entry)) ⌝ }
+{
+    let given = exchange::deliver(session, sent, lengths, used, store, out);
+    let answer = given.answer;
+    let client = given.session;
+    Turn {
+        answer,
+        written: given.written,
+        bench: Bench {
+            client,
+            server,
+            used: given.used,
+        },
+    }
+}
 
 // The client's first n bytes of out go to the server, and all that it sends for them comes back in pieces.
 pub fn turn(
@@ -28,28 +57,25 @@ pub fn turn(
     let heard = exchange::exchange(server, &out[..n], list, reply);
     let end = heard.written;
     let next = heard.session;
-    let given = exchange::deliver(client, &reply[..end], lengths, bench.used, store, out);
-    let answer = given.answer;
-    let session = given.session;
-    Turn {
-        answer,
-        written: given.written,
-        bench: Bench {
-            client: session,
-            server: next,
-            used: given.used,
-        },
-    }
+    back(client, next, &reply[..end], lengths, bench.used, out, store)
 }
 
 // Whether the client has a further command to send.
 fn is_sent(answer: PieceAnswer) -> bool
     ensures { λ r. ⌜ r ≡ isSent answer ⌝ }
 {
-    if let PieceAnswer::Sent = answer {
-        return true;
+    match answer {
+        PieceAnswer::Awaited => false,
+        PieceAnswer::Sent => true,
+        PieceAnswer::Over => false,
+        PieceAnswer::Complete => false,
+        PieceAnswer::OutOfTurn => false,
+        PieceAnswer::TooLong => false,
+        PieceAnswer::SmallBuffer => false,
+        PieceAnswer::Failed => false,
+        PieceAnswer::TooMuch => false,
+        PieceAnswer::NotAscii => false,
     }
-    false
 }
 
 // At most n further commands.

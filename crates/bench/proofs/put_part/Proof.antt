@@ -1,3 +1,4 @@
+use Rattle.wire.proofs.PutLaws.{put-then}
 use borrow.Author.Needs.{needs}
 use Rattle.bench.proofs.put_part.Statement.{statement}
 use Rattle.bench.proofs.put_part.Tie as tie
@@ -20,7 +21,7 @@ same-length c = search needs
 
 -- src/lib.rt:69:1
 returns : tie.Need-returns
-returns c = ?
+returns c = put-then (c .before .before .before .before .before .before .put-group .ensures) (c .before .before .put .ensures)
 
 pub put-part-spec : {M : Type 1} → statement M
 put-part-spec = tie.close (tie.spec put-group-requires put-requires same-length returns)

@@ -12,10 +12,6 @@ use Rattle.bench.proofs.TurnLaws.{reply-length, turn-does}
 use Rattle.bench.proofs.turns.turn.Statement.{statement}
 use Rattle.bench.proofs.turns.turn.Tie as tie
 
--- a query's text has a place for 18 bytes
-short : (s : tie.Start) → length (s .args .bench .client .query .bytes) ≡ 18
-short s = search needs
-
 -- what the server sent is inside its buffer
 inside : (k : tie.After-exchange) → k .exchange .result .written ≤ length (k .exchange .last .1 .1 .1 .0)
 inside k =
@@ -34,14 +30,14 @@ slice-aggregate-exchange c = sym (length-take-le _ _ (c .before .before .before 
 exchange-requires : tie.Need-exchange-requires
 exchange-requires c κs = search needs
 
-slice-reshare-prefix-deliver : tie.Need-slice-reshare-prefix-deliver
-slice-reshare-prefix-deliver c = inside (c .before .before .before)
+slice-reshare-prefix-back : tie.Need-slice-reshare-prefix-back
+slice-reshare-prefix-back c = inside (c .before .before .before)
 
-slice-aggregate-deliver : tie.Need-slice-aggregate-deliver
-slice-aggregate-deliver c = sym (length-take-le _ _ (inside (c .before .before .before .before)))
+slice-aggregate-back : tie.Need-slice-aggregate-back
+slice-aggregate-back c = sym (length-take-le _ _ (inside (c .before .before .before .before)))
 
-deliver-requires : tie.Need-deliver-requires
-deliver-requires c κs = search needs
+back-requires : tie.Need-back-requires
+back-requires c κs = search needs
 
 same-length : tie.Need-same-length
 same-length c = search needs
@@ -54,10 +50,11 @@ same-length-3 c = search needs
 
 returns : tie.Need-returns
 returns c =
-    let d = c .before .before .before .before .before in
+    let d = c .before .before .before .before in
     let x = d .before .before .before .before .before .before .before in
     let s = x .before .before .before .before .before .before .before .before .before .before in
-    turn-does _ (short s) _ _ _ _ _ _ _ _ _ (x .exchange .result) (d .deliver .result) (s .pre .1) (x .exchange .ensures) (d .deliver .ensures)
+    turn-does (s .args .bench) (take (s .args .n) (s .args .out .now)) (s .args .list .now) (s .args .lengths .now) (s .args .reply .now) (s .args .store .now) _ _ _
+    (x .exchange .result) (d .back .result) (s .pre .1 .1) (x .exchange .ensures) (d .back .ensures)
 
 pub turn-spec : {M : Type 1} → statement M
 turn-spec =
@@ -66,9 +63,9 @@ turn-spec =
     slice-reshare-prefix-exchange
     slice-aggregate-exchange
     exchange-requires
-    slice-reshare-prefix-deliver
-    slice-aggregate-deliver
-    deliver-requires
+    slice-reshare-prefix-back
+    slice-aggregate-back
+    back-requires
     same-length
     same-length-2
     same-length-3
