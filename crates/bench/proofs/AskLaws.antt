@@ -29,11 +29,8 @@ use Rattle.bench.specs.declared.Bench as code
 use Rattle.bench.specs.declared.Turn as code-turn
 use Rattle.bench.specs.declared.PartStep.{PartStep}
 use Rattle.bench.specs.Run.{Turn, Part, sendRoom, valuesRoom, startSays, partOf, finishing, finished}
+use Rattle.bench.proofs.TurnLaws.{front}
 use Rattle.bench.specs.Steps.{benchOf, turnOf, numberOf, pieceNumber, partAnswer, PartDoes}
-
--- a text that was written at the front of a buffer with room for it stands there
-front-holds : (out t left : List ℕ) (n : ℕ) → n ≡ length t → left ≡ sets out 0 t → length t ≤ length out → take n left ≡ t
-front-holds out t left n e q few = let p : Put out 0 t n left = record { next = omega arith; bytes = q } in put-kept p few
 
 -- ---- the start
 
@@ -145,7 +142,7 @@ module _ (asked : code-turn.Turn) (store values : List ℕ) (size : length value
   same-size = ap length stands ∙ length-sets values 0 (says .text) ∙ size
 
   text : take (s .written) left ≡ says .text
-  text = front-holds values (says .text) left (s .written) written stands few
+  text = (λ i. take (written i) (stands i)) ∙ front values (says .text) few
 
   answered : (a : Answer ℕ) → finishAnswer (s .answer) ≡ a → says .answer ≡ a
   answered a k = sym (ap (λ (x : Served ℕ). x .answer) does) ∙ k

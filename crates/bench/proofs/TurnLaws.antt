@@ -29,7 +29,7 @@ use Rattle.bench.specs.Run.{sendRoom, replyRoom, Bench, Turn, turned, tu
 use Rattle.bench.specs.Steps.{benchOf, turnOf, Room, Back, Does, isSentAnswer}
 
 -- a text that fits stands at the front of a buffer
-front : (buffer text : List ℕ) → length text ≤ length buffer → take (length text) (sets buffer 0 text) ≡ text
+pub front : (buffer text : List ℕ) → length text ≤ length buffer → take (length text) (sets buffer 0 text) ≡ text
 front buffer text h =
     let put : Put buffer 0 text (length text) (sets buffer 0 text) = record { next = omega arith; bytes = refl } in
     put-front put ∙ take-all (length buffer) text h

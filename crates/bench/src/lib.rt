@@ -147,7 +147,16 @@ fn run_checked(script: &[u8], lengths: &[u8], repeat: bool, buffer: &mut [u8]) -
         return refused(number, 0);
     }
     let bench = begun.bench;
-    ask_all(script, lengths, bench, buffer, &mut out, &mut reply, &mut store, &mut values)
+    ask_all(
+        script,
+        lengths,
+        bench,
+        buffer,
+        &mut out,
+        &mut reply,
+        &mut store,
+        &mut values,
+    )
 }
 
 // Runs a script, with the lengths of the pieces that the server's bytes are handed to the client in, and with repeat on or off. The parts stand at the front of

@@ -106,7 +106,13 @@ pub fn onward(
 }
 
 // A fresh client and a fresh server after the initialisation. The echo of ATZ and its answer arrive as one piece.
-pub fn initialise(repeat: bool, lengths: &[u8], out: &mut [u8], reply: &mut [u8], store: &mut [u8]) -> Turn
+pub fn initialise(
+    repeat: bool,
+    lengths: &[u8],
+    out: &mut [u8],
+    reply: &mut [u8],
+    store: &mut [u8],
+) -> Turn
     requires { ⌜ Room (now out) (now reply) × (now store ≡ freshStore) ⌝ }
     ensures { λ r. ⌜ Does (initialised repeat (now (lengths .entry))) r (now (out .exit)) (now (reply .exit)) (now (store .exit)) (now (lengths .entry)) ⌝ }
 {

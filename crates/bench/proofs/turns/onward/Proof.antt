@@ -1,18 +1,14 @@
+-- `bench::turns::onward` meets its contract.
 use borrow.Author.Tests.{not-true, not-false}
 use Rattle.bench.proofs.OnwardLaws.{Held, held-same, held-then, held-does, does-held, onward-held, onward-stops, onward-goes, onward-ended}
 use Rattle.bench.specs.Steps.{turnOf, Room}
 use Rattle.bench.specs.Run.{onward}
 use lib.ListN.{length}
-use native.Mathlib.Omega.{arith}
 use Prim.Native.Nat.{_-_, _≤_}
 use mathlib.Core.Path.{_≡_, sym, _∙_}
 use borrow.Author.Needs.{needs}
 use Rattle.bench.proofs.turns.onward.Statement.{statement}
 use Rattle.bench.proofs.turns.onward.Tie as tie
-use Rattle.bench.proofs.turns.onward.Reads as reads
-use Rattle.bench.proofs.turns.onward.Lts as lts
-use Rattle.bench.proofs.turns.is_sent.Reads as is-sent-reads
-use Rattle.bench.proofs.turns.turn.Reads as turn-reads
 
 abbrev Inv-loop : tie.InvT-loop
 Inv-loop n list lengths out₀ reply₀ store₀ at₀ left₀ out reply store at left =
@@ -22,59 +18,45 @@ Inv-loop n list lengths out₀ reply₀ store₀ at₀ left₀ out reply store a
 abbrev μ-loop : tie.MeasureT-loop
 μ-loop n list lengths out₀ reply₀ store₀ at₀ left₀ out reply store at left = left
 
--- src/turns.rt:70:5
 loop-holds : tie.Need-loop-holds Inv-loop μ-loop
 loop-holds c = (held-same _, search needs, c .before .before .before .before .before .pre .1, search needs)
 
--- src/turns.rt:72:13
 is-sent-requires : tie.Need-is-sent-requires Inv-loop μ-loop
 is-sent-requires c κs = search needs
 
--- src/turns.rt:73:13
 same-length : tie.Need-same-length Inv-loop μ-loop
 same-length c = search needs
 
--- src/turns.rt:73:13
 same-length-2 : tie.Need-same-length-2 Inv-loop μ-loop
 same-length-2 c = search needs
 
--- src/turns.rt:73:13
 same-length-3 : tie.Need-same-length-3 Inv-loop μ-loop
 same-length-3 c = search needs
 
--- src/turns.rt:73:13
 returns : tie.Need-returns Inv-loop μ-loop
 returns c = held-does (held-then (c .before .before .before .loop .inv .0) (onward-stops (c .before .before .before .loop .left) _ _ (sym (c .before .is-sent .ensures) ∙ not-true _ (c .if1 .taken)))) (c .before .before .before .loop .inv .1) (c .before .before .before .loop .inv .2)
 
--- src/turns.rt:76:9
 turn-requires : tie.Need-turn-requires Inv-loop μ-loop
 turn-requires c κs = (c .before .before .before .before .before .before .before .loop .inv .1, c .before .before .before .before .before .before .before .loop .inv .2)
 
--- src/turns.rt:77:9
 sub-left : tie.Need-sub-left Inv-loop μ-loop
 sub-left c = search needs
 
--- src/turns.rt:70:5
 loop-less : tie.Need-loop-less Inv-loop μ-loop
 loop-less c = search needs
 
--- src/turns.rt:70:5
 loop-again : tie.Need-loop-again Inv-loop μ-loop
 loop-again c = (held-then (c .before .before .before .before .before .before .before .before .before .before .before .before .before .before .loop .inv .0) (held-then (onward-goes (c .before .before .before .before .before .before .before .before .before .before .before .before .before .before .loop .left) _ _ (c .before .before .before .before .before .before .before .before .before .before .before .before .before .loop-test .taken) (sym (c .before .before .before .before .before .before .before .before .before .before .before .before .is-sent .ensures) ∙ not-false _ (c .before .before .before .before .before .before .before .before .before .before .before .if1 .left))) (onward-held (c .before .before .before .before .before .before .before .before .before .before .before .before .before .before .loop .left - 1) _ (does-held (c .before .before .before .before .before .before .turn .ensures)))), c .before .before .before .before .before .before .turn .ensures .inside, c .before .before .before .before .before .before .turn .ensures .room, search needs)
 
--- src/turns.rt:56:1
 same-length-4 : tie.Need-same-length-4 Inv-loop μ-loop
 same-length-4 c = search needs
 
--- src/turns.rt:56:1
 same-length-5 : tie.Need-same-length-5 Inv-loop μ-loop
 same-length-5 c = search needs
 
--- src/turns.rt:56:1
 same-length-6 : tie.Need-same-length-6 Inv-loop μ-loop
 same-length-6 c = search needs
 
--- src/turns.rt:56:1
 returns-2 : tie.Need-returns-2 Inv-loop μ-loop
 returns-2 c = held-does (held-then (c .before .loop .inv .0) (onward-ended (c .before .loop .left) _ _ (c .loop-test .left))) (c .before .loop .inv .1) (c .before .loop .inv .2)
 

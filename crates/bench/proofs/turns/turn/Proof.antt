@@ -1,6 +1,5 @@
 -- `bench::turns::turn` meets its contract.
-use mathlib.Core.Path.{_≡_, sym}
-use mathlib.Core.List.{List}
+use mathlib.Core.Path.{sym}
 use Prim.Native.Nat.{_≤_}
 use native.Mathlib.Omega.{arith}
 use lib.ListN.{length, take}
