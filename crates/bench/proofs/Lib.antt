@@ -2,3 +2,4 @@ pub mod Worked
 mod TurnLaws
 mod OnwardLaws
 mod AskLaws
+mod InitLaws

@@ -21,7 +21,7 @@ use Rattle.exchange.specs.declared.Delivery.{Delivery}
 use Rattle.exchange.specs.Exchange.{Exchanged, exchanged, exchangeServed}
 use Rattle.exchange.specs.Exchange as exchange
 use Rattle.exchange.specs.Deliver.{Delivered, delivered, Received, deliveryReceived, receiving}
-use Rattle.exchange.proofs.ExchangeLaws.{exchanged-fits}
+use Rattle.exchange.proofs.ExchangeLaws.{exchanged-fits, exchange-written}
 use Rattle.exchange.proofs.DeliverLaws.{delivered-fits}
 use Rattle.bench.specs.declared.Bench as code
 use Rattle.bench.specs.declared.Turn as code-turn
@@ -45,6 +45,9 @@ module _ (s : Session) (command list reply reply₁ : List ℕ) (x : ExchangeSte
 
   pub reply-length : length reply₁ ≡ length reply
   reply-length = ap (λ (v : exchange.Served). length (v .out)) e ∙ length-sets reply 0 (exchanged (length reply) s command list .text)
+
+  pub reply-inside : x .written ≤ length reply₁
+  reply-inside = omega (arith, exchange-written s command list reply reply₁ x e, reply-length)
 
 -- and what the client sends next in its own
 module _ (c : ClientSession) (short : length (c .query .bytes) ≡ 18) (server : ServerSession) (store ks r out lengths store₁ out₁ : List ℕ) (d : Delivery)

@@ -7,16 +7,18 @@ use lib.ListN.{length, take, drop}
 use Rattle.wire.specs.Answer.{Answer, result, refused}
 use Rattle.group.specs.Group.{groupBytes}
 use Rattle.server_session.specs.declared.ServerSession.{ServerSession}
-use Rattle.server_session.specs.Session.{session}
-use Rattle.client_session.specs.Session.{client}
+use Rattle.server_session.specs.Session.{session, freshSession}
+use Rattle.client_session.specs.Session.{client, freshClient}
+use Rattle.client_session.specs.Start.{initSays}
 use Rattle.client_session.specs.declared.PieceAnswer.{PieceAnswer}
 use Rattle.client_session.specs.Piece.{Progress, awaited, sent, over, complete, pieceAnswer}
+use Rattle.exchange.specs.Exchange.{exchanged}
 use Rattle.exchange.specs.Deliver.{Delivered}
 use Rattle.script.specs.Script.{Query, script}
 use Rattle.bench.specs.declared.Bench as code
 use Rattle.bench.specs.declared.PartStep.{PartStep}
 use Rattle.bench.specs.declared.Turn as code-turn
-use Rattle.bench.specs.Run.{Bench, Turn, Part, sendRoom, replyRoom, valuesRoom}
+use Rattle.bench.specs.Run.{Bench, Turn, Part, sendRoom, replyRoom, valuesRoom, reset}
 
 -- both sessions as the code holds them
 abbrev pub benchOf : code.Bench → List ℕ → List ℕ → Bench
@@ -25,6 +27,12 @@ benchOf b store lengths = record { client = client (b .client); store = store; s
 -- a turn as the code holds it; it keeps no list of the commands handed out
 abbrev pub turnOf : code-turn.Turn → List ℕ → List ℕ → List ℕ → Turn
 turnOf r out store lengths = record { answer = pieceAnswer (r .answer); text = take (r .written) out; bench = benchOf (r .bench) store lengths; handed = [] }
+
+-- a fresh client and a fresh server after ATZ
+abbrev pub resetFresh : Bool → List ℕ → Turn
+resetFresh repeat lengths =
+    let i = initSays sendRoom (freshClient true repeat) in
+    reset i (exchanged replyRoom freshSession (i .text) []) lengths
 
 -- the buffers have the sizes of the definition
 abbrev pub Room : List ℕ → List ℕ → Type 0

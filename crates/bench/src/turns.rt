@@ -5,12 +5,13 @@ use client_session::ClientSession;
 use client_session::PieceAnswer;
 use server_session::ServerSession;
 ghost use mathlib.Core.Path.{_≡_};
-ghost use Prim.Native.Nat.{_≤_};
+ghost use mathlib.Core.List.{List};
+ghost use Prim.Native.Nat.{ℕ, _≤_};
 ghost use lib.ListN.{length, take, drop};
 ghost use Rattle.client_session.specs.Session.{client};
 ghost use Rattle.exchange.specs.Deliver.{delivered};
 ghost use Rattle.bench.specs.Run.{sendRoom, freshStore, turn, onward, initialised};
-ghost use Rattle.bench.specs.Steps.{isSent, benchOf, turnOf, Room, Back, Does};
+ghost use Rattle.bench.specs.Steps.{isSent, benchOf, turnOf, resetFresh, Room, Back, Does};
 
 // What the server sent goes back to the client in pieces.
 fn back(
@@ -105,16 +106,10 @@ pub fn onward(
     at
 }
 
-// A fresh client and a fresh server after the initialisation. The echo of ATZ and its answer arrive as one piece.
-pub fn initialise(
-    repeat: bool,
-    lengths: &[u8],
-    out: &mut [u8],
-    reply: &mut [u8],
-    store: &mut [u8],
-) -> Turn
+// A fresh client's ATZ at a fresh server. Its echo and its answer arrive as one piece.
+fn reset(repeat: bool, out: &mut [u8], reply: &mut [u8], store: &mut [u8]) -> Turn
     requires { ⌜ Room (now out) (now reply) × (now store ≡ freshStore) ⌝ }
-    ensures { λ r. ⌜ Does (initialised repeat (now (lengths .entry))) r (now (out .exit)) (now (reply .exit)) (now (store .exit)) (now (lengths .entry)) ⌝ }
+    ensures { λ r. ⌜ ((lengths : List ℕ) → Does (resetFresh repeat lengths) r (now (out .exit)) (now (reply .exit)) (now (store .exit)) lengths) ⌝ }
 {
     let fresh = ClientSession::new(true, repeat);
     let start = fresh.init(out);
@@ -126,7 +121,7 @@ pub fn initialise(
     let step = waiting.piece(&reply[..end], store, out);
     let answer = step.answer;
     let client = step.session;
-    let from = Turn {
+    Turn {
         answer,
         written: step.written,
         bench: Bench {
@@ -134,6 +129,20 @@ pub fn initialise(
             server,
             used: 0,
         },
-    };
-    onward(from, 5, b"", lengths, out, reply, store)
+    }
+}
+
+// A fresh client and a fresh server after the initialisation.
+pub fn initialise(
+    repeat: bool,
+    lengths: &[u8],
+    out: &mut [u8],
+    reply: &mut [u8],
+    store: &mut [u8],
+) -> Turn
+    requires { ⌜ Room (now out) (now reply) × (now store ≡ freshStore) ⌝ }
+    ensures { λ r. ⌜ Does (initialised repeat (now (lengths .entry))) r (now (out .exit)) (now (reply .exit)) (now (store .exit)) (now (lengths .entry)) ⌝ }
+{
+    let first = reset(repeat, out, reply, store);
+    onward(first, 5, b"", lengths, out, reply, store)
 }

@@ -1,13 +1,11 @@
 -- `bench::turns::turn` meets its contract.
 use mathlib.Core.Path.{sym}
 use Prim.Native.Nat.{_≤_}
-use native.Mathlib.Omega.{arith}
 use lib.ListN.{length, take}
 use lib.Seq.{length-take-le}
 use borrow.Author.Needs.{needs}
 use Rattle.server_session.specs.Session.{session}
-use Rattle.exchange.proofs.ExchangeLaws.{exchange-written}
-use Rattle.bench.proofs.TurnLaws.{reply-length, turn-does}
+use Rattle.bench.proofs.TurnLaws.{reply-inside, turn-does}
 use Rattle.bench.proofs.turns.turn.Statement.{statement}
 use Rattle.bench.proofs.turns.turn.Tie as tie
 
@@ -17,8 +15,7 @@ inside k =
     let s = k .before .before .before .before .before .before .before .before .before .before in
     let command = take (s .args .n) (s .args .out .now) in
     let list = s .args .list .now in
-    let reply = s .args .reply .now in
-    omega (arith, exchange-written (session (s .args .bench .server)) command list reply (k .exchange .last .1 .1 .1 .0) (k .exchange .result) (k .exchange .ensures), reply-length (session (s .args .bench .server)) command list reply (k .exchange .last .1 .1 .1 .0) (k .exchange .result) (k .exchange .ensures))
+    reply-inside (session (s .args .bench .server)) command list (s .args .reply .now) _ (k .exchange .result) (k .exchange .ensures)
 
 slice-reshare-prefix-exchange : tie.Need-slice-reshare-prefix-exchange
 slice-reshare-prefix-exchange c = search needs

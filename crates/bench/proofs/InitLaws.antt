@@ -1,0 +1,111 @@
+-- The initialisation of fresh sessions: ATZ, whose echo and answer arrive as one piece, and then the other commands.
+use mathlib.Core.Path.{_≡_, refl, ap, _∙_}
+use mathlib.Core.Bool.{Bool, true}
+use mathlib.Core.List.{List, []}
+use Prim.Native.Nat.{ℕ, _≤_}
+use native.Mathlib.Omega.{arith}
+use lib.ListN.{length, take}
+use lib.Seq.{length-sets}
+use Rattle.server_session.specs.declared.ServerSession.{ServerSession}
+use Rattle.server_session.specs.Session.{session, freshSession}
+use Rattle.client_session.specs.declared.ClientSession.{ClientSession}
+use Rattle.client_session.specs.declared.StartStep.{StartStep}
+use Rattle.client_session.specs.declared.PieceStep.{PieceStep}
+use Rattle.client_session.specs.Session.{client, freshClient, Said, Served, lent}
+use Rattle.client_session.specs.Start.{initSays, startServed}
+use Rattle.client_session.specs.Piece.{Progress, pieceSays, Received, pieceReceived, pieceLent, receiving}
+use Rattle.client_session.proofs.StartLaws.{init-starts, init-fits}
+use Rattle.client_session.proofs.PieceLaws.{piece-fits}
+use Rattle.exchange.specs.declared.ExchangeStep.{ExchangeStep}
+use Rattle.exchange.specs.Exchange.{Exchanged, exchanged, exchangeServed}
+use Rattle.exchange.specs.Exchange as exchange
+use Rattle.bench.specs.declared.Turn as code-turn
+use Rattle.bench.specs.Run.{sendRoom, replyRoom, freshStore, onward, initialised}
+use Rattle.bench.specs.Steps.{turnOf, resetFresh, Does}
+use Rattle.bench.proofs.TurnLaws.{front, reply-text, reply-next, reply-length}
+use Rattle.bench.proofs.OnwardLaws.{held-does, held-then, does-held, onward-held}
+
+-- what a call says, as the lent buffer shows it
+module _ {A : Type 0} (d : Said A) (out : List ℕ) (fits : length (d .text) ≤ length out) (v : Served A) (e : v ≡ lent d out) where
+  lent-text : take (v .written) (v .out) ≡ d .text
+  lent-text = (λ i. take (e i .written) (e i .out)) ∙ front out (d .text) fits
+
+  lent-length : length (v .out) ≡ length out
+  lent-length = ap (λ (x : Served A). length (x .out)) e ∙ length-sets out 0 (d .text)
+
+  lent-inside : v .written ≤ length (v .out)
+  lent-inside = let w : v .written ≡ length (d .text) = ap (λ (x : Served A). x .written) e in omega (arith, fits, lent-length)
+
+-- ATZ goes out
+module _ (repeat : Bool) (out out₁ : List ℕ) (fresh : ClientSession) (i : StartStep) (size : length out ≡ sendRoom) (new : client fresh ≡ freshClient true repeat)
+    (e : startServed i out₁ ≡ lent (initSays (length out) (client fresh)) out) where
+  abbrev starts : Said (Unit {0})
+  starts = initSays sendRoom (freshClient true repeat)
+
+  started : startServed i out₁ ≡ lent starts out
+  started = e ∙ (λ j. lent (initSays (size j) (new j)) out)
+
+  start-fits : length (starts .text) ≤ length out
+  start-fits = omega (arith, size, init-fits sendRoom (freshClient true repeat))
+
+  start-text : take (i .written) out₁ ≡ starts .text
+  start-text = lent-text starts out start-fits (startServed i out₁) started
+
+  start-length : length out₁ ≡ sendRoom
+  start-length = lent-length starts out start-fits (startServed i out₁) started ∙ size
+
+  start-next : client (i .session) ≡ starts .next
+  start-next = ap (λ (v : Served (Unit {0})). v .next) started
+
+  pub start-inside : i .written ≤ length out₁
+  start-inside = lent-inside starts out start-fits (startServed i out₁) started
+
+  -- the server's echo and answer to it are one piece
+  module _ (reply reply₁ store out₂ store₁ : List ℕ) (server : ServerSession) (x : ExchangeStep) (p : PieceStep) (large : length reply ≡ replyRoom)
+      (empty : store ≡ freshStore) (ready : session server ≡ freshSession)
+      (heard : exchangeServed x reply₁ ≡ exchange.lent (exchanged (length reply) (session server) (take (i .written) out₁) []) reply)
+      (taken : pieceReceived p out₂ store₁ ≡ pieceLent (client (i .session)) (take (x .written) reply₁) store out₁) where
+    abbrev exchanges : Exchanged
+    exchanges = exchanged replyRoom freshSession (starts .text) []
+
+    exchanges-is : exchanged (length reply) (session server) (take (i .written) out₁) [] ≡ exchanges
+    exchanges-is = λ j. exchanged (large j) (ready j) (start-text j) []
+
+    sent : take (x .written) reply₁ ≡ exchanges .text
+    sent = reply-text (session server) (take (i .written) out₁) [] reply reply₁ x heard ∙ ap (λ (v : Exchanged). v .text) exchanges-is
+
+    abbrev takes : Said Progress
+    takes = pieceSays sendRoom (starts .next) (exchanges .text) freshStore
+
+    received : pieceReceived p out₂ store₁ ≡ receiving (starts .next) takes (exchanges .text) freshStore out₁
+    received = taken ∙ (λ j. receiving (start-next j) (pieceSays (start-length j) (start-next j) (sent j) (empty j)) (sent j) (empty j) out₁)
+
+    takes-fits : length (takes .text) ≤ length out₁
+    takes-fits =
+        let none : starts .next .query .text ≡ [] = ap (λ (v : Said (Unit {0})). v .next .query .text) (init-starts sendRoom (freshClient true repeat) refl (omega arith)) in
+        omega (arith, start-length, piece-fits (starts .next) (exchanges .text) freshStore sendRoom (omega (arith, ap length none)))
+
+    pub reset-does : (lengths : List ℕ) →
+        Does (resetFresh repeat lengths) (record { answer = p .answer; written = p .written; bench = record { client = p .session; server = x .session; used = 0 } })
+        out₂ reply₁ store₁ lengths
+    reset-does lengths =
+        let served : pieceReceived p out₂ store₁ .served ≡ lent takes out₁ = ap (λ (v : Received). v .served) received in
+        let s = reply-next (session server) (take (i .written) out₁) [] reply reply₁ x heard ∙ ap (λ (v : Exchanged). v .next) exchanges-is in
+        record {
+          answer = ap (λ (v : Received). v .served .answer) received;
+          text = lent-text takes out₁ takes-fits (pieceReceived p out₂ store₁ .served) served;
+          bench = λ j. record { client = received j .served .next; store = received j .store; server = s j; lengths = lengths };
+          inside = lent-inside takes out₁ takes-fits (pieceReceived p out₂ store₁ .served) served;
+          room = (
+            lent-length takes out₁ takes-fits (pieceReceived p out₂ store₁ .served) served ∙ start-length,
+            reply-length (session server) (take (i .written) out₁) [] reply reply₁ x heard ∙ large,
+          );
+        }
+
+-- and then the other commands
+pub initialised-does : (repeat : Bool) (first r : code-turn.Turn) (out reply store lengths out₁ reply₁ store₁ : List ℕ) →
+    Does (resetFresh repeat lengths) first out reply store lengths → Does (onward 5 (turnOf first out store lengths) []) r out₁ reply₁ store₁ lengths →
+    Does (initialised repeat lengths) r out₁ reply₁ store₁ lengths
+unfolding initialised
+initialised-does repeat first r out reply store lengths out₁ reply₁ store₁ a b =
+    held-does (held-then (onward-held 5 [] (does-held a)) (does-held b)) (b .inside) (b .room)
