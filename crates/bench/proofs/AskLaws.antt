@@ -21,7 +21,7 @@ use Rattle.client_session.specs.declared.PieceAnswer.the-variants.{Awaited, Sen
 use Rattle.client_session.specs.declared.FinishStep.{FinishStep}
 use Rattle.client_session.specs.Session.{Client, client, Said, Served, lent}
 use Rattle.client_session.specs.Start.{queryPidSays, queryPidsSays, startServed}
-use Rattle.client_session.specs.Piece.{complete, pieceAnswer, replyIn}
+use Rattle.client_session.specs.Piece.{Progress, awaited, sent, over, complete, pieceAnswer, replyIn}
 use Rattle.client_session.specs.Finish.{isComplete, finished as values-said, roomFor, finishReply, finishSays, finishAnswer, finishServed}
 use Rattle.client_session.proofs.StartLaws.{pid-fits, pids-fits}
 use Rattle.client_session.proofs.StepLaws.{put-kept}
@@ -81,21 +81,21 @@ finish-fits room c store =
     (λ early. rw early (omega arith))
 
 -- what a piece says, by its number
-number-refused : {A : Type 0} (a : Answer A) (n : ℕ) → n ≡ numberOf a → (n ≡ 0 → ⊥) → a ≡ refused n
+pub number-refused : {A : Type 0} (a : Answer A) (n : ℕ) → n ≡ numberOf a → (n ≡ 0 → ⊥) → a ≡ refused n
 number-refused (result x) n e some = absurd (some e)
 number-refused (refused m) n e some = ap refused (sym e)
 
-no-number : (a : PieceAnswer) (t : Turn) → pieceNumber a ≡ 0 → finishing t (pieceAnswer a) ≡ finishing t (result complete)
-no-number Awaited t e = refl
-no-number Sent t e = refl
-no-number Over t e = refl
-no-number Complete t e = refl
-no-number OutOfTurn t e = absurd (omega arith)
-no-number TooLong t e = absurd (omega arith)
-no-number SmallBuffer t e = absurd (omega arith)
-no-number Failed t e = absurd (omega arith)
-no-number TooMuch t e = absurd (omega arith)
-no-number NotAscii t e = absurd (omega arith)
+pub no-number : (a : PieceAnswer) → pieceNumber a ≡ 0 → (p : Progress) × (pieceAnswer a ≡ result p)
+no-number Awaited e = (awaited, refl)
+no-number Sent e = (sent, refl)
+no-number Over e = (over, refl)
+no-number Complete e = (complete, refl)
+no-number OutOfTurn e = absurd (omega arith)
+no-number TooLong e = absurd (omega arith)
+no-number SmallBuffer e = absurd (omega arith)
+no-number Failed e = absurd (omega arith)
+no-number TooMuch e = absurd (omega arith)
+no-number NotAscii e = absurd (omega arith)
 
 part-refused : (n count : ℕ) (text : List ℕ) → (n ≡ 0 → ⊥) → partAnswer n count text ≡ refused n
 part-refused zero count text some = absurd (some refl)
@@ -156,7 +156,7 @@ module _ (asked : code-turn.Turn) (store values : List ℕ) (size : length value
   pub values-stand : (n : ℕ) → finishAnswer (s .answer) ≡ result n → (lengths : List ℕ) →
       PartDoes (finished (turnOf asked [] store lengths)) (record { number = 0; count = n; written = s .written; bench = next }) left store lengths
   values-stand n k lengths =
-      rw (no-number (asked .answer) (turnOf asked [] store lengths) none)
+      rw (no-number (asked .answer) none .1)
       (record {
         answer = ap (λ t. result (groupBytes n ++ t)) text ∙ sym (ap (partOf says) (answered (result n) k));
         bench = same lengths;
@@ -168,5 +168,5 @@ module _ (asked : code-turn.Turn) (store values : List ℕ) (size : length value
   pub finish-refused : (r : PartStep) (n : ℕ) → r ≡ endedAt n next → (n ≡ 0 → ⊥) → finishAnswer (s .answer) ≡ refused n → (lengths : List ℕ) →
       PartDoes (finished (turnOf asked [] store lengths)) r left store lengths
   finish-refused r n z some k lengths =
-      rw (no-number (asked .answer) (turnOf asked [] store lengths) none)
+      rw (no-number (asked .answer) none .1)
       (ends _ r n next left store lengths same-size z some (ap (partOf says) (answered (refused n) k)) (same lengths))

@@ -3,3 +3,4 @@ mod TurnLaws
 mod OnwardLaws
 mod AskLaws
 mod InitLaws
+mod RunLaws
