@@ -58,9 +58,6 @@ pub record PidsAt (s : List ℕ) (at few pids : ℕ) : Type 0 where
   pub some : few ≡ 0 → ⊥
   pub room : few ≤ length s - pids
 
-pub pids-at : {s : List ℕ} {at few pids : ℕ} → NumberAt 6 s at few pids → (few ≡ 0 → ⊥) → few ≤ length s - pids → PidsAt s at few pids
-pids-at p h k = record { number = p; some = h; room = k }
-
 -- no ECU count, no number of lines, or not as many lines: no query
 module _ (s : List ℕ) (at few pids : ℕ) (p : PidsAt s at few pids) where
   at-pids : queryAt s at ≡
