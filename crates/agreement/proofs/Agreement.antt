@@ -2,25 +2,28 @@
 use mathlib.Core.Path.{_≡_, refl, sym, ap, subst, _∙_}
 use mathlib.Core.List.{List, [], _∷_, map}
 use mathlib.Core.Logic.{_↔_}
-use Prim.Native.Nat.{ℕ, zero, suc, _≤_, min}
+use Prim.Native.Nat.{ℕ, zero, suc, _≤_, _<_}
 use native.Mathlib.Omega.{arith}
 use lib.ListN.{length, take, length-take}
 use lib.Seq.{sets, take-all}
 use Rattle.wire.specs.Answer.{Answer, result}
 use Rattle.wire.specs.Put.{Put}
 use Rattle.wire.proofs.PutLaws.{put-front}
-use Rattle.wire.proofs.All.{Bytes, all-from}
+use Rattle.wire.proofs.All.{all-from}
 use Rattle.group.specs.Group.{Read, got}
 use Rattle.value.specs.Values.{Value, recordBytes, readRecord}
 use Rattle.value.specs.Same.{SameValues, SameQueries, SameRecord}
 use Rattle.value.proofs.RecordLaws.{RecordFits, record-back, same-record}
 use Rattle.reply_values.specs.Values.{answerOrder}
 use Rattle.script.specs.Script.{Query}
+use Rattle.script.specs.Written.{AllInLimits}
+use Rattle.script.proofs.ScriptLaws.{script-limits}
 use Rattle.bench.specs.Run.{Run, Recorded, runAnswer}
 use Rattle.agreement.specs.Vehicle.{given}
 use Rattle.agreement.specs.Demand.{givens, commands, fitting, partsIn, firstOf, SameFirst, Drive, hireRecord, standing, comesTo, EveryFits, Holds, Agreement}
 use Rattle.agreement.proofs.Finished.{answer-reordered}
-use Rattle.agreement.proofs.Told.{ordered, told, fitting-few, told-parts, told-handed, told-inside, told-whole}
+use Rattle.agreement.proofs.Ran.{script-ready, run-told}
+use Rattle.agreement.proofs.Told.{ordered, given-fits, told, fitting-few, told-parts, told-handed, told-inside, told-whole}
 
 -- ---- the first n of some lists
 
@@ -79,59 +82,72 @@ same-taken n qs rs =
 
 -- ---- one run
 
-module _ (ran : (d : Drive) → comesTo d ≡ told (length (d .lentBuffer)) (d .queries)) (fits : (d : Drive) → RecordFits (ordered (d .queries))) where
-  module _ (d : Drive) where
-    abbrev room : ℕ
-    room = length (d .lentBuffer)
+-- it comes to what the script alone tells
+ran : (d : Drive) → comesTo d ≡ told (length (d .lentBuffer)) (d .queries)
+ran d =
+    let ready = script-ready (d .scriptBytes) (d .queries) (all-from (λ b. b < 256) (d .scriptBytes) (d .bytes)) (d .reads) in
+    run-told (d .lengths) (d .repeat) (d .pieces) (length (d .lentBuffer)) (d .scriptBytes) (d .queries) (d .reads) ready (d .lines)
 
-    abbrev count : ℕ
-    count = fitting room (d .queries)
+-- and its values can be read back
+fits-all : (qs : List Query) → AllInLimits qs → RecordFits (ordered qs)
+fits-all [] l = tt
+fits-all (q ∷ qs) l = (answer-reordered (given (q .lines)) .fit (given-fits (q .lines) (l .0 .fit)), fits-all qs (l .1))
 
-    abbrev parts : List (List Value)
-    parts = take count (ordered (d .queries))
+fits : (d : Drive) → RecordFits (ordered (d .queries))
+fits d = fits-all (d .queries) (script-limits (d .scriptBytes) (d .queries) (d .reads))
 
-    parts-fit : RecordFits parts
-    parts-fit = fits-first count (ordered (d .queries)) (fits d)
+module _ (d : Drive) where
+  abbrev room : ℕ
+  room = length (d .lentBuffer)
 
-    count-parts : length parts ≡ count
-    count-parts = omega (arith, length-take count (ordered (d .queries)), length-ordered (d .queries), fitting-few room (d .queries))
+  abbrev count : ℕ
+  count = fitting room (d .queries)
 
-    -- what stands in the buffer are the parts of the queries that fit
-    record-is : hireRecord d ≡ recordBytes parts
-    record-is =
-        let w : d .run .written ≡ length (comesTo d .parts) = ap (λ (x : Recorded). x .written) (d .ran) in
-        let b : d .buffer ≡ sets (d .lentBuffer) 0 (comesTo d .parts) = ap (λ (x : Recorded). x .out) (d .ran) in
-        let inside : length (comesTo d .parts) ≤ room = rw (ran d) (told-inside room (d .queries)) in
-        let put : Put (d .lentBuffer) 0 (comesTo d .parts) (d .run .written) (d .buffer) = record { next = omega arith; bytes = b } in
-        put-front put ∙ take-all room (comesTo d .parts) inside ∙ ap (λ (r : Run). r .parts) (ran d) ∙ told-parts room (d .queries)
+  abbrev parts : List (List Value)
+  parts = take count (ordered (d .queries))
 
-    stand-is : standing d ≡ count
-    stand-is = ap (λ s. partsIn (readRecord s)) record-is ∙ ap partsIn (record-back parts parts-fit) ∙ count-parts
+  parts-fit : RecordFits parts
+  parts-fit = fits-first count (ordered (d .queries)) (fits d)
 
-    answer-is : runAnswer (d .run .answer) ≡ told room (d .queries) .answer
-    answer-is = ap (λ (x : Recorded). x .answer) (d .ran) ∙ ap (λ (r : Run). r .answer) (ran d)
+  count-parts : length parts ≡ count
+  count-parts = omega (arith, length-take count (ordered (d .queries)), length-ordered (d .queries), fitting-few room (d .queries))
 
-    holds : Holds d
-    holds = record {
-      stand = stand-is;
-      whole = λ e. answer-is ∙ told-whole room (d .queries) e;
-      handed = ap (λ (r : Run). r .handed) (ran d) ∙ told-handed room (d .queries) ∙ ap (λ n. take (suc n) (commands (d .queries))) (sym stand-is);
-    }
+  -- what stands in the buffer are the parts of the queries that fit
+  record-is : hireRecord d ≡ recordBytes parts
+  record-is =
+      let w : d .run .written ≡ length (comesTo d .parts) = ap (λ (x : Recorded). x .written) (d .ran) in
+      let b : d .buffer ≡ sets (d .lentBuffer) 0 (comesTo d .parts) = ap (λ (x : Recorded). x .out) (d .ran) in
+      let inside : length (comesTo d .parts) ≤ room = rw (ran d) (told-inside room (d .queries)) in
+      let put : Put (d .lentBuffer) 0 (comesTo d .parts) (d .run .written) (d .buffer) = record { next = omega arith; bytes = b } in
+      put-front put ∙ take-all room (comesTo d .parts) inside ∙ ap (λ (r : Run). r .parts) (ran d) ∙ told-parts room (d .queries)
 
-    whole-parts : EveryFits d → parts ≡ ordered (d .queries)
-    whole-parts e = ap (λ n. take n (ordered (d .queries))) (e ∙ sym (length-ordered (d .queries))) ∙ take-whole (ordered (d .queries))
-    -- ---- two runs
+  stand-is : standing d ≡ count
+  stand-is = ap (λ s. partsIn (readRecord s)) record-is ∙ ap partsIn (record-back parts parts-fit) ∙ count-parts
 
-  pub agreement : (d e : Drive) → Agreement d e
-  agreement d e = record {
-    one = holds d;
-    two = holds e;
-    equal = λ f g.
-        rw (record-is d, record-is e, whole-parts d f, whole-parts e g)
-        (iff-then (same-record (ordered (d .queries)) (ordered (e .queries)) (fits d) (fits e)) (same-ordered (d .queries) (e .queries)));
-    before = λ n h i.
-        let first₁ = take-first n (count d) (ordered (d .queries)) (omega (arith, stand-is d)) in
-        let first₂ = take-first n (count e) (ordered (e .queries)) (omega (arith, stand-is e)) in
-        rw (record-is d, record-is e)
-        (iff-then (same-first n (parts d) (parts e) (parts-fit d) (parts-fit e)) (rw (first₁, first₂) (same-taken n (d .queries) (e .queries))));
+  answer-is : runAnswer (d .run .answer) ≡ told room (d .queries) .answer
+  answer-is = ap (λ (x : Recorded). x .answer) (d .ran) ∙ ap (λ (r : Run). r .answer) (ran d)
+
+  holds : Holds d
+  holds = record {
+    stand = stand-is;
+    whole = λ e. answer-is ∙ told-whole room (d .queries) e;
+    handed = ap (λ (r : Run). r .handed) (ran d) ∙ told-handed room (d .queries) ∙ ap (λ n. take (suc n) (commands (d .queries))) (sym stand-is);
   }
+
+  whole-parts : EveryFits d → parts ≡ ordered (d .queries)
+  whole-parts e = ap (λ n. take n (ordered (d .queries))) (e ∙ sym (length-ordered (d .queries))) ∙ take-whole (ordered (d .queries))
+  -- ---- two runs
+
+pub agreement : (d e : Drive) → Agreement d e
+agreement d e = record {
+  one = holds d;
+  two = holds e;
+  equal = λ f g.
+      rw (record-is d, record-is e, whole-parts d f, whole-parts e g)
+      (iff-then (same-record (ordered (d .queries)) (ordered (e .queries)) (fits d) (fits e)) (same-ordered (d .queries) (e .queries)));
+  before = λ n h i.
+      let first₁ = take-first n (count d) (ordered (d .queries)) (omega (arith, stand-is d)) in
+      let first₂ = take-first n (count e) (ordered (e .queries)) (omega (arith, stand-is e)) in
+      rw (record-is d, record-is e)
+      (iff-then (same-first n (parts d) (parts e) (parts-fit d) (parts-fit e)) (rw (first₁, first₂) (same-taken n (d .queries) (e .queries))));
+}

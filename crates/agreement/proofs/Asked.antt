@@ -37,10 +37,10 @@ use Rattle.exchange.specs.Exchange.{Exchanged, exchanged}
 use Rattle.exchange.specs.Deliver.{delivered}
 use Rattle.bench.specs.Run as run
 use Rattle.bench.specs.Run.{sendRoom, replyRoom, valuesRoom, Bench, Turn, turned, turn, onward, startSays, Part, partOf, finishing, finished, part}
+use Rattle.script.proofs.LinesLaws.{AllBytes}
 use Rattle.agreement.specs.Lines.{GoodLines}
 use Rattle.agreement.specs.Vehicle.{given}
 use Rattle.agreement.specs.Demand.{commandOf}
-use Rattle.agreement.proofs.ReplyBack.{AllBytes}
 use Rattle.agreement.proofs.Agree.{Agree}
 use Rattle.agreement.proofs.Heard.{quiet, unspaced-some, unspaced-short, heard, heard-again}
 use Rattle.agreement.proofs.Arrive.{reply-stands, plainly, no-question, reply-overflows}

@@ -18,8 +18,9 @@ use Rattle.line_list.specs.Lines.{Line}
 use Rattle.reply.specs.Reply.{ecuId}
 use Rattle.reply_values.specs.Values.{spanOf, walked, lineValues, valuesOf}
 use Rattle.reply_values.proofs.WalkLaws.{walked-nil, walked-cons}
+use Rattle.script.proofs.LinesLaws.{AllBytes}
 use Rattle.agreement.specs.Vehicle.{givenEcu, owed, takes, givenLine, given}
-use Rattle.agreement.proofs.ReplyBack.{known, AllBytes}
+use Rattle.agreement.proofs.ReplyBack.{known}
 
 -- cut at the line's end or not, the same bytes are taken and the same are left
 take-span : (o : Option ℕ) (s : List ℕ) → take (spanOf o (length s)) s ≡ take (owed o (length s)) s

@@ -11,3 +11,4 @@ pub mod Told
 pub mod Ran
 pub mod Numbers
 pub mod Agreement
+pub mod Witness

@@ -11,6 +11,7 @@ use lib.Seq.{sets, length-sets}
 use borrow.Author.Tests.{ltb-true, ltb-false}
 use Rattle.wire.specs.Answer.{Answer, result, refused}
 use Rattle.wire.specs.Text.{ascii, has, high}
+use Rattle.wire.proofs.All.{Bytes}
 use Rattle.wire.proofs.Cases.{by-test, from-no}
 use Rattle.line_list.specs.Lines.{Line, linesBytes}
 use Rattle.reply.specs.Reply.{replyText}
@@ -28,7 +29,9 @@ use Rattle.client_session.specs.Piece.{Progress, complete, replyIn}
 use Rattle.client_session.specs.Finish.{finishSays}
 use Rattle.client_session.proofs.StartLaws.{query-repeated, query-in-full}
 use Rattle.client_session.proofs.PiecesLaws.{Awaiting, prompted}
-use Rattle.script.specs.Script.{Query, script}
+use Rattle.group.specs.Group.{Read, got}
+use Rattle.group.specs.Group.{malformed as none}
+use Rattle.script.specs.Script.{Query, readQueries, queriesOf, script}
 use Rattle.exchange.specs.Exchange.{Exchanged, exchanged}
 use Rattle.exchange.specs.Deliver.{delivered}
 use Rattle.bench.specs.Run as run
@@ -41,7 +44,7 @@ use Rattle.agreement.proofs.Finished.{finish-any}
 use Rattle.agreement.proofs.Started.{settled, settles, Between, started}
 use Rattle.agreement.proofs.Replied as replied
 use Rattle.agreement.proofs.Asked.{Ready}
-use Rattle.agreement.proofs.Ran.{AllReady}
+use Rattle.agreement.proofs.Ran.{AllReady, script-ready}
 
 -- The sessions between queries, on any script.
 record Quiet (b : Bench) : Type 0 where
@@ -121,12 +124,12 @@ module _ (pids : List ℕ) (count : ℕ) (ls : List Line) (ok : Ready (record { 
     module _ (e : exchanged replyRoom (quiet server) command list ≡ handing) (w : Awaiting sendRoom (replied.asks pids count ls k u) store []) where
       done : (c : Client) (ks′ : List ℕ) → c .under ≡ under.Complete → c .got ≡ length (prompted body) →
           settled sent command list handing body ≡ completeTurn c (sets store 0 (prompted body)) next ks′ handed → Done (turn sent command list)
-      done c ks′ u′ got q =
+      done c ks′ u′ counted q =
           by-test (ltb 4096 (length reply))
           (λ t. much (replied.reply-fails pids count ls k u store ks server command handing e refl w (ltb-true 4096 (length reply) t)))
           (λ t.
           let h = ltb-false 4096 (length reply) t in
-          let low : high (replyIn c (sets store 0 (prompted body))) ≡ false = ap high (replied.stands pids count ls store size c got h) ∙ reply-low false false true ls in
+          let low : high (replyIn c (sets store 0 (prompted body))) ≡ false = ap high (replied.stands pids count ls store size c counted h) ∙ reply-low false false true ls in
           whole c (sets store 0 (prompted body)) next ks′ handed u′ (replied.still-size pids count ls store size) low short
           (replied.reply-comes pids count ls k u store ks server command handing e refl w h ∙ q))
 
@@ -216,3 +219,16 @@ fresh-quiet repeat ks =
 
 read-ends : (repeat : Bool) (ks : List ℕ) (room : ℕ) (qs : List Query) → AllReady qs → Ends (runRead repeat ks room (result qs) .answer)
 read-ends repeat ks room qs ok = rw (started (λ p. 0) repeat ks .answer) (asked-ends room (initialised repeat ks .bench) qs (fresh-quiet repeat ks) ok)
+
+-- a script that is refused gets 3 or 5
+by-reading : (repeat : Bool) (ks : List ℕ) (room : ℕ) (r : Read (List Query)) → ((qs : List Query) → queriesOf r ≡ result qs → AllReady qs) → Ends (runRead repeat ks room (queriesOf r) .answer)
+by-reading repeat ks room none ok = malformed
+by-reading repeat ks room (got qs rest) ok = read-ends repeat ks room qs (ok qs refl)
+
+-- "3, 5, then as it runs 8 or 6" (READING-01.md), on every script, which is bytes
+pub run-ends : (repeat : Bool) (ks : List ℕ) (room : ℕ) (s : List ℕ) → Bytes s → Ends (runSays repeat ks room s .answer)
+unfolding runSays script
+run-ends repeat ks room s b =
+    by-test (ltb 16384 (length s))
+    (λ e. rw e too-long)
+    (λ e. rw e (by-reading repeat ks room (readQueries (length s) s) (λ qs q. script-ready s qs b (rw e q))))

@@ -9,8 +9,11 @@ use lib.ListN.{length}
 use borrow.Author.Tests.{ltb-true, ltb-false}
 use Rattle.wire.specs.Answer.{Answer, result}
 use Rattle.wire.proofs.Cases.{by-test}
+use Rattle.wire.proofs.All.{Bytes}
 use Rattle.reply.specs.Reply.{replyText}
 use Rattle.script.specs.Script.{Query, script}
+use Rattle.script.specs.Written.{AllInLimits}
+use Rattle.script.proofs.ScriptLaws.{AllAreBytes, script-limits, script-bytes}
 use Rattle.bench.specs.Run.{Bench, Turn, initialised, Part, part, Run, standing, sizeOf, asked, begun, runRead, runSays}
 use Rattle.agreement.specs.Demand.{GoodQueries, commandOf}
 use Rattle.agreement.proofs.Started.{Between, started}
@@ -20,6 +23,25 @@ use Rattle.agreement.proofs.Told.{givenPart, told}
 abbrev pub AllReady : List Query → Type 0
 AllReady [] = Unit {0}
 AllReady (q ∷ qs) = Ready q × AllReady qs
+
+-- a script's queries are such
+ready : (qs : List Query) → AllInLimits qs → AllAreBytes qs → AllReady qs
+ready [] l b = tt
+ready (q ∷ qs) l b = (
+  record {
+    some = l .0 .some;
+    few = l .0 .few;
+    counted = l .0 .counted;
+    pids = b .0 .pids;
+    fit = l .0 .fit;
+    many = l .0 .short;
+    bytes = b .0 .lines;
+  },
+  ready qs (l .1) (b .1),
+)
+
+pub script-ready : (s : List ℕ) (qs : List Query) → Bytes s → script s ≡ result qs → AllReady qs
+script-ready s qs b e = ready qs (script-limits s qs e) (script-bytes s qs b e)
 
 -- a query, and then the others
 one : (L : ℕ → ℕ) (room : ℕ) (b : Bench) (q : Query) (qs : List Query) → Outcome L q (part b q) →

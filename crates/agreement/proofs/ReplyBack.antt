@@ -19,6 +19,7 @@ use Rattle.reply_lines.specs.Decode.{textLine, replyLines}
 use Rattle.reply_lines.proofs.BackLaws.{plain-line, empty-line, prompt-line, framed-plain, framed-back}
 use Rattle.reply_values.specs.Values.{valuesOf}
 use Rattle.reply_values.specs.Learn.{lengthsAfter}
+use Rattle.script.proofs.LinesLaws.{AllBytes}
 use Rattle.client_session.specs.Session.{Client, Said}
 use Rattle.client_session.specs.Piece.{replyIn}
 use Rattle.client_session.specs.Finish.{isComplete, finished, roomFor, finishSays}
@@ -26,11 +27,6 @@ use Rattle.client_session.specs.Finish.{isComplete, finished, roomFor, finishSa
 -- a line with its ECU known
 abbrev pub known : Line → Line
 known l = line (suc (ecuId (l .ecu))) (l .bytes)
-
--- the data of every line are bytes
-abbrev pub AllBytes : List Line → Type 0
-AllBytes [] = Unit {0}
-AllBytes (l ∷ ls) = Bytes (l .bytes) × AllBytes ls
 
 further : (s : List ℕ) → furtherHex false s ≡ hexBytes s
 further [] = refl

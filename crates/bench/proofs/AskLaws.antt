@@ -4,7 +4,7 @@ use mathlib.Core.List.{List, [], _∷_, _++_}
 use Prim.Native.Nat.{ℕ, zero, suc, _≤_}
 use native.Mathlib.Omega.{arith}
 use lib.Dec.{ltb}
-use lib.ListN.{length, take, getD}
+use lib.ListN.{length, take, drop, getD}
 use lib.Seq.{sets, length-sets}
 use borrow.Author.Tests.{ltb-false}
 use Rattle.wire.specs.Answer.{Answer, result, refused}
@@ -15,6 +15,7 @@ use Rattle.group.specs.Group.{groupBytes}
 use Rattle.reply_lines.specs.Decode.{replyLines}
 use Rattle.reply_values.specs.Values.{valuesOf}
 use Rattle.reply_values.specs.Learn.{lengthsAfter}
+use Rattle.server_session.specs.Session.{session}
 use Rattle.client_session.specs.declared.StartStep.{StartStep}
 use Rattle.client_session.specs.declared.PieceAnswer.{PieceAnswer}
 use Rattle.client_session.specs.declared.PieceAnswer.the-variants.{Awaited, Sent, Over, Complete, OutOfTurn, TooLong, SmallBuffer, Failed, TooMuch, NotAscii}
@@ -28,9 +29,10 @@ use Rattle.client_session.proofs.StepLaws.{put-kept}
 use Rattle.bench.specs.declared.Bench as code
 use Rattle.bench.specs.declared.Turn as code-turn
 use Rattle.bench.specs.declared.PartStep.{PartStep}
-use Rattle.bench.specs.Run.{Turn, Part, sendRoom, valuesRoom, startSays, partOf, finishing, finished}
+use Rattle.bench.specs.Run.{Bench, Turn, turn, onward, Part, sendRoom, valuesRoom, startSays, asking, partOf, finishing, finished}
 use Rattle.bench.proofs.TurnLaws.{front}
-use Rattle.bench.specs.Steps.{benchOf, turnOf, numberOf, pieceNumber, partAnswer, PartDoes}
+use Rattle.bench.proofs.OnwardLaws.{held-then, held-does, does-held, onward-held}
+use Rattle.bench.specs.Steps.{benchOf, turnOf, Does, numberOf, pieceNumber, partAnswer, PartDoes}
 
 -- ---- the start
 
@@ -170,3 +172,48 @@ module _ (asked : code-turn.Turn) (store values : List ℕ) (size : length value
   finish-refused r n z some k lengths =
       rw (no-number (asked .answer) none .1)
       (ends _ r n next left store lengths same-size z some (ap (partOf says) (answered (refused n) k)) (same lengths))
+
+-- ---- the query is asked
+
+-- what a start wrote
+module _ (s : Said (Unit {0})) (begun : StartStep) (out out₁ : List ℕ) (size : length out ≡ sendRoom) (few : length (s .text) ≤ sendRoom)
+    (e : startServed begun out₁ ≡ lent s out) where
+  pub start-text : take (begun .written) out₁ ≡ s .text
+  start-text = (λ i. take (e i .written) (e i .out)) ∙ front out (s .text) (omega arith)
+
+  pub start-size : length out₁ ≡ sendRoom
+  start-size = ap (λ (v : Served (Unit {0})). length (v .out)) e ∙ length-sets out 0 (s .text) ∙ size
+
+  pub start-inside : begun .written ≤ length out₁
+  start-inside = let w : begun .written ≡ length (s .text) = ap (λ (v : Served (Unit {0})). v .written) e in omega (arith, start-size)
+
+  -- the command of the query, and then at most one more
+  pub ask-does : (b : code.Bench) (first r : code-turn.Turn) (list lengths store o₁ p₁ s₁ o₂ p₂ s₂ : List ℕ) →
+      Does (turn (benchOf (record { client = begun .session; server = b .server; used = b .used }) store lengths) (take (begun .written) out₁) list) first o₁ p₁ s₁ lengths →
+      Does (onward 1 (turnOf first o₁ s₁ lengths) list) r o₂ p₂ s₂ lengths → Does (asking (benchOf b store lengths) s list) r o₂ p₂ s₂ lengths
+  ask-does b first r list lengths store o₁ p₁ s₁ o₂ p₂ s₂ f d =
+      let next : client (begun .session) ≡ s .next = ap (λ (v : Served (Unit {0})). v .next) e in
+      let same : turn (benchOf (record { client = begun .session; server = b .server; used = b .used }) store lengths) (take (begun .written) out₁) list ≡
+      turn (record { client = s .next; store = store; server = session (b .server); lengths = drop (b .used) lengths }) (s .text) list =
+      λ i. turn (record { client = next i; store = store; server = session (b .server); lengths = drop (b .used) lengths }) (start-text i) list in
+      held-does
+      (held-then (onward-held 1 list (held-then (record { answer = ap (λ (t : Turn). t .answer) (sym same); text = ap (λ (t : Turn). t .text) (sym same); bench = ap (λ (t : Turn). t .bench) (sym same) }) (does-held f)))
+      (does-held d))
+      (d .inside) (d .room)
+
+-- and finished; a finish goes by the answer and the bench alone
+finishing-held : (a : Answer Progress) (t u : Turn) → t .bench ≡ u .bench → (finishing t a .answer ≡ finishing u a .answer) × (finishing t a .bench ≡ finishing u a .bench)
+finishing-held (refused n) t u e = (refl, e)
+finishing-held (result p) t u e = (
+  ap (λ (b : Bench). partOf (finishSays valuesRoom (b .client) (b .store)) (finishSays valuesRoom (b .client) (b .store) .answer)) e,
+  ap (λ (b : Bench). record { client = finishSays valuesRoom (b .client) (b .store) .next; store = b .store; server = b .server; lengths = b .lengths }) e,
+)
+
+pub part-does : {t : Turn} {asked : code-turn.Turn} {r : PartStep} {out reply values store lengths : List ℕ} → Does t asked out reply store lengths →
+    PartDoes (finished (turnOf asked [] store lengths)) r values store lengths → PartDoes (finished t) r values store lengths
+part-does {t} {asked} {r} {out} {reply} {values} {store} {lengths} p d =
+    let u = turnOf asked [] store lengths in
+    let (answer, bench) = finishing-held (u .answer) t u (sym (p .bench)) in
+    let a : finished t .answer ≡ finished u .answer = ap (λ a. finishing t a .answer) (sym (p .answer)) ∙ answer in
+    let b : finished t .bench ≡ finished u .bench = ap (λ a. finishing t a .bench) (sym (p .answer)) ∙ bench in
+    record { answer = d .answer ∙ sym a; bench = d .bench ∙ sym b; inside = d .inside; room = d .room }

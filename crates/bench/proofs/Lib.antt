@@ -1,4 +1,5 @@
 pub mod Worked
+pub mod FitLaws
 mod TurnLaws
 mod OnwardLaws
 mod AskLaws

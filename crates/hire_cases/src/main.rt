@@ -1,0 +1,36 @@
+// Runs several bench scripts from standard input one after the other, and prints what `hire` prints for each, with a line `--` after it. A case is a byte for the
+// record buffer (that many bytes; 0 for the 65,536 of `hire`), the script's length as two bytes, the higher first, and the script.
+use libc::STDIN_FILENO;
+use libc::STDOUT_FILENO;
+ghost use Prim.Native.Nat.{_≤_};
+
+// Prints what `hire` prints for a script, with the first room bytes of a record buffer.
+fn print_case(script: &[u8], room: usize) {
+    let mut record = [0u8; 65536];
+    let mut out = [0u8; 196620];
+    let size = wire::at_most(room, 65536);
+    let end = hire_text::hire_text(script, &mut record[..size], &mut out);
+    io::write_all(STDOUT_FILENO, &out[..end]);
+    io::write_all(STDOUT_FILENO, b"--\n");
+}
+
+fn room_of(byte: u8) -> usize {
+    if byte == 0 {
+        return 65536;
+    }
+    byte as usize
+}
+
+fn main() {
+    let mut input = [0u8; 32768];
+    let n = io::read_full(STDIN_FILENO, &mut input);
+    let mut at: usize = 0;
+    // A case has a byte at least.
+    while at + 3 <= n {
+        let room = room_of(input[at]);
+        let start = at + 3;
+        let end = wire::at_most(start + input[at + 1] as usize * 256 + input[at + 2] as usize, n);
+        print_case(&input[start..end], room);
+        at = end;
+    }
+}
