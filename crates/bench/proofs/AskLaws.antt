@@ -5,10 +5,8 @@ use Prim.Native.Nat.{ℕ, zero, suc, _≤_}
 use native.Mathlib.Omega.{arith}
 use lib.Dec.{ltb}
 use lib.ListN.{length, take, drop, getD}
-use lib.Seq.{sets, length-sets}
 use borrow.Author.Tests.{ltb-false}
 use Rattle.wire.specs.Answer.{Answer, result, refused}
-use Rattle.wire.specs.Put.{Put}
 use Rattle.wire.specs.Text.{high}
 use Rattle.wire.proofs.Cases.{by-test}
 use Rattle.group.specs.Group.{groupBytes}
@@ -25,12 +23,11 @@ use Rattle.client_session.specs.Start.{queryPidSays, queryPidsSays, startServed
 use Rattle.client_session.specs.Piece.{Progress, awaited, sent, over, complete, pieceAnswer, replyIn}
 use Rattle.client_session.specs.Finish.{isComplete, finished as values-said, roomFor, finishReply, finishSays, finishAnswer, finishServed}
 use Rattle.client_session.proofs.StartLaws.{pid-fits, pids-fits}
-use Rattle.client_session.proofs.StepLaws.{put-kept}
 use Rattle.bench.specs.declared.Bench as code
 use Rattle.bench.specs.declared.Turn as code-turn
 use Rattle.bench.specs.declared.PartStep.{PartStep}
 use Rattle.bench.specs.Run.{Bench, Turn, turn, onward, Part, sendRoom, valuesRoom, startSays, asking, partOf, finishing, finished}
-use Rattle.bench.proofs.TurnLaws.{front}
+use Rattle.bench.proofs.TurnLaws.{lent-length, lent-text, lent-inside}
 use Rattle.bench.proofs.OnwardLaws.{held-then, held-does, does-held, onward-held}
 use Rattle.bench.specs.Steps.{benchOf, turnOf, Does, numberOf, pieceNumber, partAnswer, PartDoes}
 
@@ -134,17 +131,11 @@ module _ (asked : code-turn.Turn) (store values : List ℕ) (size : length value
   few : length (says .text) ≤ length values
   few = omega (arith, size, finish-fits valuesRoom (client (asked .bench .client)) store)
 
-  written : s .written ≡ length (says .text)
-  written = ap (λ (x : Served ℕ). x .written) does
-
-  stands : left ≡ sets values 0 (says .text)
-  stands = ap (λ (x : Served ℕ). x .out) does
-
   same-size : length left ≡ valuesRoom
-  same-size = ap length stands ∙ length-sets values 0 (says .text) ∙ size
+  same-size = lent-length says values (finishServed s left) does ∙ size
 
   text : take (s .written) left ≡ says .text
-  text = (λ i. take (written i) (stands i)) ∙ front values (says .text) few
+  text = lent-text says values (finishServed s left) does few
 
   answered : (a : Answer ℕ) → finishAnswer (s .answer) ≡ a → says .answer ≡ a
   answered a k = sym (ap (λ (x : Served ℕ). x .answer) does) ∙ k
@@ -162,7 +153,7 @@ module _ (asked : code-turn.Turn) (store values : List ℕ) (size : length value
       (record {
         answer = ap (λ t. result (groupBytes n ++ t)) text ∙ sym (ap (partOf says) (answered (result n) k));
         bench = same lengths;
-        inside = omega (arith, written, few, size, same-size);
+        inside = lent-inside says values (finishServed s left) does few;
         room = same-size;
       })
 
@@ -179,13 +170,13 @@ module _ (asked : code-turn.Turn) (store values : List ℕ) (size : length value
 module _ (s : Said (Unit {0})) (begun : StartStep) (out out₁ : List ℕ) (size : length out ≡ sendRoom) (few : length (s .text) ≤ sendRoom)
     (e : startServed begun out₁ ≡ lent s out) where
   pub start-text : take (begun .written) out₁ ≡ s .text
-  start-text = (λ i. take (e i .written) (e i .out)) ∙ front out (s .text) (omega arith)
+  start-text = lent-text s out (startServed begun out₁) e (omega arith)
 
   pub start-size : length out₁ ≡ sendRoom
-  start-size = ap (λ (v : Served (Unit {0})). length (v .out)) e ∙ length-sets out 0 (s .text) ∙ size
+  start-size = lent-length s out (startServed begun out₁) e ∙ size
 
   pub start-inside : begun .written ≤ length out₁
-  start-inside = let w : begun .written ≡ length (s .text) = ap (λ (v : Served (Unit {0})). v .written) e in omega (arith, start-size)
+  start-inside = lent-inside s out (startServed begun out₁) e (omega arith)
 
   -- the command of the query, and then at most one more
   pub ask-does : (b : code.Bench) (first r : code-turn.Turn) (list lengths store o₁ p₁ s₁ o₂ p₂ s₂ : List ℕ) →

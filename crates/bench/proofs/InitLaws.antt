@@ -5,7 +5,6 @@ use mathlib.Core.List.{List, []}
 use Prim.Native.Nat.{ℕ, _≤_}
 use native.Mathlib.Omega.{arith}
 use lib.ListN.{length, take}
-use lib.Seq.{length-sets}
 use Rattle.server_session.specs.declared.ServerSession.{ServerSession}
 use Rattle.server_session.specs.Session.{session, freshSession}
 use Rattle.client_session.specs.declared.ClientSession.{ClientSession}
@@ -22,19 +21,9 @@ use Rattle.exchange.specs.Exchange as exchange
 use Rattle.bench.specs.declared.Turn as code-turn
 use Rattle.bench.specs.Run.{sendRoom, replyRoom, freshStore, onward, initialised}
 use Rattle.bench.specs.Steps.{turnOf, resetFresh, Does}
-use Rattle.bench.proofs.TurnLaws.{front, reply-text, reply-next, reply-length}
+use Rattle.bench.proofs.TurnLaws.{lent-length, lent-text, lent-inside, reply-text, reply-next, reply-length}
+use Rattle.bench.proofs.AskLaws.{start-text, start-size, start-inside}
 use Rattle.bench.proofs.OnwardLaws.{held-does, held-then, does-held, onward-held}
-
--- what a call says, as the lent buffer shows it
-module _ {A : Type 0} (d : Said A) (out : List ℕ) (fits : length (d .text) ≤ length out) (v : Served A) (e : v ≡ lent d out) where
-  lent-text : take (v .written) (v .out) ≡ d .text
-  lent-text = (λ i. take (e i .written) (e i .out)) ∙ front out (d .text) fits
-
-  lent-length : length (v .out) ≡ length out
-  lent-length = ap (λ (x : Served A). length (x .out)) e ∙ length-sets out 0 (d .text)
-
-  lent-inside : v .written ≤ length (v .out)
-  lent-inside = let w : v .written ≡ length (d .text) = ap (λ (x : Served A). x .written) e in omega (arith, fits, lent-length)
 
 -- ATZ goes out
 module _ (repeat : Bool) (out out₁ : List ℕ) (fresh : ClientSession) (i : StartStep) (size : length out ≡ sendRoom) (new : client fresh ≡ freshClient true repeat)
@@ -45,20 +34,20 @@ module _ (repeat : Bool) (out out₁ : List ℕ) (fresh : ClientSession) (i : St
   started : startServed i out₁ ≡ lent starts out
   started = e ∙ (λ j. lent (initSays (size j) (new j)) out)
 
-  start-fits : length (starts .text) ≤ length out
-  start-fits = omega (arith, size, init-fits sendRoom (freshClient true repeat))
+  start-fits : length (starts .text) ≤ sendRoom
+  start-fits = init-fits sendRoom (freshClient true repeat)
 
-  start-text : take (i .written) out₁ ≡ starts .text
-  start-text = lent-text starts out start-fits (startServed i out₁) started
+  pub init-inside : i .written ≤ length out₁
+  init-inside = start-inside starts i out out₁ size start-fits started
 
-  start-length : length out₁ ≡ sendRoom
-  start-length = lent-length starts out start-fits (startServed i out₁) started ∙ size
+  command : take (i .written) out₁ ≡ starts .text
+  command = start-text starts i out out₁ size start-fits started
 
-  start-next : client (i .session) ≡ starts .next
-  start-next = ap (λ (v : Served (Unit {0})). v .next) started
+  same-size : length out₁ ≡ sendRoom
+  same-size = start-size starts i out out₁ size start-fits started
 
-  pub start-inside : i .written ≤ length out₁
-  start-inside = lent-inside starts out start-fits (startServed i out₁) started
+  next : client (i .session) ≡ starts .next
+  next = ap (λ (v : Served (Unit {0})). v .next) started
 
   -- the server's echo and answer to it are one piece
   module _ (reply reply₁ store out₂ store₁ : List ℕ) (server : ServerSession) (x : ExchangeStep) (p : PieceStep) (large : length reply ≡ replyRoom)
@@ -69,7 +58,7 @@ module _ (repeat : Bool) (out out₁ : List ℕ) (fresh : ClientSession) (i : St
     exchanges = exchanged replyRoom freshSession (starts .text) []
 
     exchanges-is : exchanged (length reply) (session server) (take (i .written) out₁) [] ≡ exchanges
-    exchanges-is = λ j. exchanged (large j) (ready j) (start-text j) []
+    exchanges-is = λ j. exchanged (large j) (ready j) (command j) []
 
     sent : take (x .written) reply₁ ≡ exchanges .text
     sent = reply-text (session server) (take (i .written) out₁) [] reply reply₁ x heard ∙ ap (λ (v : Exchanged). v .text) exchanges-is
@@ -78,26 +67,27 @@ module _ (repeat : Bool) (out out₁ : List ℕ) (fresh : ClientSession) (i : St
     takes = pieceSays sendRoom (starts .next) (exchanges .text) freshStore
 
     received : pieceReceived p out₂ store₁ ≡ receiving (starts .next) takes (exchanges .text) freshStore out₁
-    received = taken ∙ (λ j. receiving (start-next j) (pieceSays (start-length j) (start-next j) (sent j) (empty j)) (sent j) (empty j) out₁)
+    received = taken ∙ (λ j. receiving (next j) (pieceSays (same-size j) (next j) (sent j) (empty j)) (sent j) (empty j) out₁)
 
     takes-fits : length (takes .text) ≤ length out₁
     takes-fits =
         let none : starts .next .query .text ≡ [] = ap (λ (v : Said (Unit {0})). v .next .query .text) (init-starts sendRoom (freshClient true repeat) refl (omega arith)) in
-        omega (arith, start-length, piece-fits (starts .next) (exchanges .text) freshStore sendRoom (omega (arith, ap length none)))
+        omega (arith, same-size, piece-fits (starts .next) (exchanges .text) freshStore sendRoom (omega (arith, ap length none)))
 
     pub reset-does : (lengths : List ℕ) →
         Does (resetFresh repeat lengths) (record { answer = p .answer; written = p .written; bench = record { client = p .session; server = x .session; used = 0 } })
         out₂ reply₁ store₁ lengths
     reset-does lengths =
-        let served : pieceReceived p out₂ store₁ .served ≡ lent takes out₁ = ap (λ (v : Received). v .served) received in
+        let v = pieceReceived p out₂ store₁ .served in
+        let served : v ≡ lent takes out₁ = ap (λ (v : Received). v .served) received in
         let s = reply-next (session server) (take (i .written) out₁) [] reply reply₁ x heard ∙ ap (λ (v : Exchanged). v .next) exchanges-is in
         record {
           answer = ap (λ (v : Received). v .served .answer) received;
-          text = lent-text takes out₁ takes-fits (pieceReceived p out₂ store₁ .served) served;
+          text = lent-text takes out₁ v served takes-fits;
           bench = λ j. record { client = received j .served .next; store = received j .store; server = s j; lengths = lengths };
-          inside = lent-inside takes out₁ takes-fits (pieceReceived p out₂ store₁ .served) served;
+          inside = lent-inside takes out₁ v served takes-fits;
           room = (
-            lent-length takes out₁ takes-fits (pieceReceived p out₂ store₁ .served) served ∙ start-length,
+            lent-length takes out₁ v served ∙ same-size,
             reply-length (session server) (take (i .written) out₁) [] reply reply₁ x heard ∙ large,
           );
         }

@@ -1,15 +1,15 @@
 -- Further commands: the code keeps no list of the commands handed out, and what it keeps does not depend on them.
 use mathlib.Core.Path.{_≡_, refl, sym, ap, subst, _∙_}
-use mathlib.Core.Bool.{Bool, true, false}
-use mathlib.Core.List.{List, []}
-use Prim.Native.Nat.{ℕ, zero, suc, _+_, _-_, _<_, _≤_}
+use mathlib.Core.Bool.{true, false}
+use mathlib.Core.List.{List}
+use Prim.Native.Nat.{ℕ, zero, suc, _-_, _<_, _≤_}
 use native.Mathlib.Omega.{arith}
 use lib.ListN.{length}
 use Rattle.wire.specs.Answer.{Answer, result, refused}
 use Rattle.wire.proofs.Cases.{from-no}
 use Rattle.client_session.specs.Piece.{Progress, awaited, sent, over, complete}
 use Rattle.bench.specs.declared.Turn as code-turn
-use Rattle.bench.specs.Run.{Bench, Turn, turn, later, sending, onward}
+use Rattle.bench.specs.Run.{Turn, turn, later, sending, onward}
 use Rattle.bench.specs.Steps.{turnOf, Room, Does, isSentAnswer}
 
 -- Two turns with the same commands to come.

@@ -1,21 +1,18 @@
 -- What an exchange and a delivery come to together, and further commands after it.
-use mathlib.Core.Path.{_≡_, refl, sym, ap, subst, _∙_}
-use mathlib.Core.Bool.{Bool, true, false}
-use mathlib.Core.List.{List, []}
-use Prim.Native.Nat.{ℕ, zero, suc, _≤_}
+use mathlib.Core.Path.{_≡_, refl, ap, _∙_}
+use mathlib.Core.List.{List}
+use Prim.Native.Nat.{ℕ, _≤_}
 use native.Mathlib.Omega.{arith}
 use lib.ListN.{length, take, drop}
 use lib.Seq.{sets, take-all, length-sets}
-use Rattle.wire.specs.Answer.{Answer, result, refused}
 use Rattle.wire.specs.Put.{Put}
-use Rattle.wire.proofs.Cases.{from-no}
 use Rattle.wire.proofs.PutLaws.{put-front}
 use Rattle.query_text.proofs.KeptLaws.{text-short}
 use Rattle.server_session.specs.declared.ServerSession.{ServerSession}
 use Rattle.server_session.specs.Session.{Session, session}
 use Rattle.client_session.specs.declared.ClientSession.{ClientSession}
-use Rattle.client_session.specs.Session.{Client, client}
-use Rattle.client_session.specs.Piece.{Progress, awaited, sent, over, complete, pieceAnswer}
+use Rattle.client_session.specs.Session.{client, Said, Served, lent}
+use Rattle.client_session.specs.Piece.{Progress}
 use Rattle.exchange.specs.declared.ExchangeStep.{ExchangeStep}
 use Rattle.exchange.specs.declared.Delivery.{Delivery}
 use Rattle.exchange.specs.Exchange.{Exchanged, exchanged, exchangeServed}
@@ -25,14 +22,26 @@ use Rattle.exchange.proofs.ExchangeLaws.{exchanged-fits, exchange-written}
 use Rattle.exchange.proofs.DeliverLaws.{delivered-fits}
 use Rattle.bench.specs.declared.Bench as code
 use Rattle.bench.specs.declared.Turn as code-turn
-use Rattle.bench.specs.Run.{sendRoom, replyRoom, Bench, Turn, turned, turn, later, sending, onward}
-use Rattle.bench.specs.Steps.{benchOf, turnOf, Room, Back, Does, isSentAnswer}
+use Rattle.bench.specs.Run.{sendRoom, replyRoom, turn}
+use Rattle.bench.specs.Steps.{benchOf, Back, Does}
 
 -- a text that fits stands at the front of a buffer
 pub front : (buffer text : List ℕ) → length text ≤ length buffer → take (length text) (sets buffer 0 text) ≡ text
 front buffer text h =
     let put : Put buffer 0 text (length text) (sets buffer 0 text) = record { next = omega arith; bytes = refl } in
     put-front put ∙ take-all (length buffer) text h
+
+-- so does what a call on the client says
+module _ {A : Type 0} (d : Said A) (out : List ℕ) (v : Served A) (e : v ≡ lent d out) where
+  pub lent-length : length (v .out) ≡ length out
+  lent-length = ap (λ (x : Served A). length (x .out)) e ∙ length-sets out 0 (d .text)
+
+  module _ (fits : length (d .text) ≤ length out) where
+    pub lent-text : take (v .written) (v .out) ≡ d .text
+    lent-text = (λ i. take (e i .written) (e i .out)) ∙ front out (d .text) fits
+
+    pub lent-inside : v .written ≤ length (v .out)
+    lent-inside = let w : v .written ≡ length (d .text) = ap (λ (x : Served A). x .written) e in omega (arith, fits, lent-length)
 
 -- what the server sent stands in its buffer
 module _ (s : Session) (command list reply reply₁ : List ℕ) (x : ExchangeStep) (e : exchangeServed x reply₁ ≡ exchange.lent (exchanged (length reply) s command list) reply) where
@@ -55,26 +64,29 @@ module _ (c : ClientSession) (short : length (c .query .bytes) ≡ 18) (server :
   said : deliveryReceived lengths d store₁ out₁ ≡ receiving (delivered sendRoom (client c) store ks r) out
   said = e ∙ ap (λ n. receiving (delivered n (client c) store ks r) out) size
 
-  abbrev text : List ℕ
-  text = delivered sendRoom (client c) store ks r .said .text
+  abbrev says : Said Progress
+  says = delivered sendRoom (client c) store ks r .said
 
-  next-fits : length text ≤ length out
+  abbrev served : Served Progress
+  served = deliveryReceived lengths d store₁ out₁ .served
+
+  does : served ≡ lent says out
+  does = ap (λ (v : Received). v .served) said
+
+  next-fits : length (says .text) ≤ length out
   next-fits = omega (arith, size, delivered-fits sendRoom (client c) store ks r (omega (arith, text-short (c .query) short)))
-
-  out-size : length out₁ ≡ length out
-  out-size = ap (λ (v : Received). length (v .served .out)) said ∙ length-sets out 0 text
 
   pub back-does : Back (delivered sendRoom (client c) store ks r) server
       (record { answer = d .answer; written = d .written; bench = record { client = d .session; server = server; used = d .used } }) out₁ store₁ lengths
   back-does = record {
     answer = ap (λ (v : Received). v .served .answer) said;
-    text = (λ i. take (said i .served .written) (said i .served .out)) ∙ front out text next-fits;
+    text = lent-text says out served does next-fits;
     next = ap (λ (v : Received). v .served .next) said;
     kept = ap (λ (v : Received). v .store) said;
     left = ap (λ (v : Received). v .lengths) said;
     waits = refl;
-    inside = let w : d .written ≡ length text = ap (λ (v : Received). v .served .written) said in omega (arith, next-fits, out-size);
-    size = out-size ∙ size;
+    inside = lent-inside says out served does next-fits;
+    size = lent-length says out served does ∙ size;
   }
 
 -- the two together

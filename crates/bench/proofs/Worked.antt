@@ -1,8 +1,7 @@
 -- Document 01's worked example of a run.
 use mathlib.Core.Path.{_≡_, refl}
 use mathlib.Core.Bool.{true}
-use mathlib.Core.List.{List, [], _∷_}
-use Prim.Native.Nat.{ℕ}
+use mathlib.Core.List.{[], _∷_}
 use Rattle.wire.specs.Answer.{result}
 use Rattle.wire.specs.Text.{ascii, has, high, isSpace, raised}
 use Rattle.hex.specs.Digits.{hexDigit}
@@ -27,7 +26,7 @@ use Rattle.client_session.specs.Finish.{finishSays}
 use Rattle.script.specs.Script.{script}
 use Rattle.exchange.specs.Exchange.{exchanged}
 use Rattle.exchange.specs.Deliver.{pieces, delivered}
-use Rattle.bench.specs.Run.{initialised, part, Run, runSays}
+use Rattle.bench.specs.Run.{initialised, part, runSays}
 
 example : runSays true [] 65536 (0x01 ∷ 0x0C ∷ 0x02 ∷ 0x01 ∷ 0x00 ∷ 0x04 ∷ 0x41 ∷ 0x0C ∷ 0x1A ∷ 0xF8 ∷ []) ≡
     record { answer = result tt; parts = 0x01 ∷ 0x0C ∷ 0xE9 ∷ 0x0F ∷ 0x04 ∷ 0x41 ∷ 0x0C ∷ 0x1A ∷ 0xF8 ∷ []; handed = ascii "010C1" ∷ [] }

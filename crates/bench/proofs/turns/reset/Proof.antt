@@ -8,7 +8,7 @@ use lib.Seq.{length-take-le}
 use borrow.Author.Needs.{needs}
 use Rattle.server_session.specs.Session.{session}
 use Rattle.bench.proofs.TurnLaws.{reply-inside}
-use Rattle.bench.proofs.InitLaws.{start-inside, reset-does}
+use Rattle.bench.proofs.InitLaws.{init-inside, reset-does}
 use Rattle.bench.proofs.turns.reset.Statement.{statement}
 use Rattle.bench.proofs.turns.reset.Tie as tie
 
@@ -17,7 +17,7 @@ started : (k : tie.After-init) → k .init .result .written ≤ length (k .init 
 started k =
     let n = k .before .before in
     let s = n .before .before .before .before in
-    start-inside (s .args .repeat) (s .args .out .now) _ (n .new .result) (k .init .result) (s .pre .0 .0) (n .new .ensures) (k .init .ensures)
+    init-inside (s .args .repeat) (s .args .out .now) _ (n .new .result) (k .init .result) (s .pre .0 .0) (n .new .ensures) (k .init .ensures)
 
 -- what the server sent is inside its own
 sent : (k : tie.After-exchange) → k .exchange .result .written ≤ length (k .exchange .last .1 .1 .1 .0)
