@@ -3,3 +3,4 @@ pub mod FitLaws
 mod TurnLaws
 mod OnwardLaws
 mod AskLaws
+mod LoopLaws
