@@ -3,5 +3,6 @@ pub mod FitLaws
 mod TurnLaws
 mod OnwardLaws
 mod AskLaws
+mod LoopLaws
 mod InitLaws
 mod RunLaws

@@ -2,8 +2,9 @@
 use mathlib.Core.Path.{_≡_}
 use mathlib.Core.Bool.{Bool, true, false}
 use mathlib.Core.List.{List, [], _++_}
-use Prim.Native.Nat.{ℕ, zero, suc, _≤_}
+use Prim.Native.Nat.{ℕ, zero, suc, _+_, _≤_}
 use lib.ListN.{length, take, drop}
+use lib.Seq.{sets}
 use Rattle.wire.specs.Answer.{Answer, result, refused}
 use Rattle.group.specs.Group.{groupBytes}
 use Rattle.server_session.specs.declared.ServerSession.{ServerSession}
@@ -18,7 +19,7 @@ use Rattle.script.specs.Script.{Query, script}
 use Rattle.bench.specs.declared.Bench as code
 use Rattle.bench.specs.declared.PartStep.{PartStep}
 use Rattle.bench.specs.declared.Turn as code-turn
-use Rattle.bench.specs.Run.{Bench, Turn, Part, sendRoom, replyRoom, valuesRoom, reset}
+use Rattle.bench.specs.Run.{Bench, Turn, Part, Run, Recorded, sendRoom, replyRoom, valuesRoom, reset, standing}
 
 -- both sessions as the code holds them
 abbrev pub benchOf : code.Bench → List ℕ → List ℕ → Bench
@@ -97,3 +98,11 @@ queriesOf (refused n) = []
 
 abbrev pub queriesIn : List ℕ → List Query
 queriesIn s = queriesOf (script s)
+
+-- a query's part in what is left of the record's room, as if no other followed
+abbrev pub added : ℕ → Answer (List ℕ) → Run
+added room a = standing room a [] (record { answer = result tt; parts = []; handed = [] })
+
+-- the parts of a run that stand from position at on
+abbrev pub lentFrom : ℕ → Run → List ℕ → Recorded
+lentFrom at d out = record { answer = d .answer; written = at + length (d .parts); out = sets out at (d .parts) }

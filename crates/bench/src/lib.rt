@@ -10,12 +10,13 @@ use script::ScriptCursor;
 use server_session::ServerSession;
 ghost use mathlib.Core.Path.{_≡_};
 ghost use mathlib.Core.List.{_++_};
-ghost use lib.ListN.{length};
+ghost use Prim.Native.Nat.{_-_, _≤_};
+ghost use lib.ListN.{length, take};
 ghost use Rattle.wire.specs.Put.{Put};
 ghost use Rattle.group.specs.Group.{groupBytes};
 ghost use Rattle.bench.specs.declared.RunAnswer.the-variants.{Refused};
 ghost use Rattle.bench.specs.Run.{valuesRoom, asked, runSays, recorded, lent};
-ghost use Rattle.bench.specs.Steps.{benchOf, Room, IsScript, queriesIn};
+ghost use Rattle.bench.specs.Steps.{benchOf, Room, partAnswer, added, lentFrom, IsScript, queriesIn};
 
 // How a run ended.
 pub enum RunAnswer {
@@ -73,6 +74,25 @@ fn put_part(buffer: &mut [u8], at: usize, count: usize, values: &[u8]) -> usize
     wire::put(buffer, start, values)
 }
 
+// Writes a query's part into the record from position at on, if there is room for it.
+fn add_part(part: PartStep, values: &[u8], buffer: &mut [u8], at: usize) -> BenchRun
+    requires { ⌜ (part .written ≤ length (now values)) × (at ≤ length (now buffer)) ⌝ }
+    ensures { λ r. ⌜ recorded r (now (buffer .exit)) ≡ lentFrom at (added (length (now (buffer .entry)) - at) (partAnswer (part .number) (part .count) (take (part .written) (now (values .entry))))) (now (buffer .entry)) ⌝ }
+{
+    if part.number != 0 {
+        return refused(part.number, at);
+    }
+    let size = part.written;
+    if buffer.len() - at < group::group_size(part.count) + size {
+        return refused(6, at);
+    }
+    let end = put_part(buffer, at, part.count, &values[..size]);
+    BenchRun {
+        answer: RunAnswer::Complete,
+        written: end,
+    }
+}
+
 // Asks the queries of a checked script, and writes their parts into the record one after the other.
 fn ask_all(
     script: &[u8],
@@ -114,14 +134,12 @@ fn ask_all(
             store,
             values,
         );
-        if part.number != 0 {
-            return refused(part.number, at);
+        let added = add_part(part, values, buffer, at);
+        let answer = added.answer;
+        if let RunAnswer::Refused(_) = answer {
+            return added;
         }
-        let size = part.written;
-        if buffer.len() - at < group::group_size(part.count) + size {
-            return refused(6, at);
-        }
-        at = put_part(buffer, at, part.count, &values[..size]);
+        at = added.written;
         bench = part.bench;
         cursor = next;
     }

@@ -29,7 +29,10 @@ fn main() {
     while at + 3 <= n {
         let room = room_of(input[at]);
         let start = at + 3;
-        let end = wire::at_most(start + input[at + 1] as usize * 256 + input[at + 2] as usize, n);
+        let end = wire::at_most(
+            start + input[at + 1] as usize * 256 + input[at + 2] as usize,
+            n,
+        );
         print_case(&input[start..end], room);
         at = end;
     }
