@@ -1,0 +1,68 @@
+-- `hire_text::hire_text` meets its contract.
+use Rattle.hire_text.proofs.HireLaws.{buffer-left, run-inside, text-complete, text-refused}
+use lib.Seq.{length-take-le}
+use mathlib.Core.Path.{sym}
+use borrow.Author.Needs.{needs}
+use Rattle.hire_text.proofs.hire_text.Statement.{statement}
+use Rattle.hire_text.proofs.hire_text.Tie as tie
+
+slice-aggregate-run : tie.Need-slice-aggregate-run
+slice-aggregate-run c = search needs
+
+run-requires : tie.Need-run-requires
+run-requires c κs = search needs
+
+slice-reshare-prefix-put-parts : tie.Need-slice-reshare-prefix-put-parts
+slice-reshare-prefix-put-parts c = run-inside (c .before .before .before .before .before .before .before .before .before .args .script .now) (c .before .before .before .before .before .before .before .before .before .args .buffer .now) _ (c .before .before .before .run .result) (c .before .before .before .run .ensures)
+
+slice-aggregate-put-parts : tie.Need-slice-aggregate-put-parts
+slice-aggregate-put-parts c = sym (length-take-le _ _ (run-inside (c .before .before .before .before .before .before .before .before .before .before .args .script .now) (c .before .before .before .before .before .before .before .before .before .before .args .buffer .now) _ (c .before .before .before .before .run .result) (c .before .before .before .before .run .ensures)))
+
+put-parts-requires : tie.Need-put-parts-requires
+put-parts-requires c κs = search needs
+
+enum-told : tie.Need-enum-told
+enum-told c = search needs
+
+enum-known-answer : tie.Need-enum-known-answer
+enum-known-answer c = search needs
+
+put-refused-requires : tie.Need-put-refused-requires
+put-refused-requires c κs = search needs
+
+same-length : tie.Need-same-length
+same-length c = search needs
+
+same-length-2 : tie.Need-same-length-2
+same-length-2 c = search needs
+
+returns : tie.Need-returns
+returns c = (text-complete (c .before .before .before .before .before .before .before .before .before .before .before .before .before .before .before .args .script .now) (c .before .before .before .before .before .before .before .before .before .before .before .before .before .before .before .args .buffer .now) _ (c .before .before .before .before .before .before .before .before .before .run .result) (c .before .before .before .before .before .before .before .before .before .run .ensures) (c .enum-told .given .1) (c .before .before .before .before .put-parts .ensures), buffer-left (c .before .before .before .before .before .before .before .before .before .before .before .before .before .before .before .args .script .now) (c .before .before .before .before .before .before .before .before .before .before .before .before .before .before .before .args .buffer .now) _ (c .before .before .before .before .before .before .before .before .before .run .result) (c .before .before .before .before .before .before .before .before .before .run .ensures))
+
+same-length-3 : tie.Need-same-length-3
+same-length-3 c = search needs
+
+same-length-4 : tie.Need-same-length-4
+same-length-4 c = search needs
+
+returns-2 : tie.Need-returns-2
+returns-2 c = (text-refused (c .before .before .before .before .before .before .before .before .before .before .before .before .before .before .before .before .before .before .before .before .args .script .now) (c .before .before .before .before .before .before .before .before .before .before .before .before .before .before .before .before .before .before .before .before .args .buffer .now) _ (c .before .before .before .before .before .before .before .before .before .before .before .before .before .before .run .result) (c .before .before .before .before .before .before .before .before .before .before .before .before .before .before .run .ensures) (c .before .before .before .before .before .answer .given .1) (c .before .before .before .before .before .before .before .before .before .put-parts .ensures) (c .before .before .put-refused .ensures), buffer-left (c .before .before .before .before .before .before .before .before .before .before .before .before .before .before .before .before .before .before .before .before .args .script .now) (c .before .before .before .before .before .before .before .before .before .before .before .before .before .before .before .before .before .before .before .before .args .buffer .now) _ (c .before .before .before .before .before .before .before .before .before .before .before .before .before .before .run .result) (c .before .before .before .before .before .before .before .before .before .before .before .before .before .before .run .ensures))
+
+pub hire-text-spec : {M : Type 1} → statement M
+hire-text-spec =
+    tie.close
+    (tie.spec
+    slice-aggregate-run
+    run-requires
+    slice-reshare-prefix-put-parts
+    slice-aggregate-put-parts
+    put-parts-requires
+    enum-told
+    enum-known-answer
+    put-refused-requires
+    same-length
+    same-length-2
+    returns
+    same-length-3
+    same-length-4
+    returns-2)
