@@ -4,11 +4,12 @@ use libc::STDIN_FILENO;
 use libc::STDOUT_FILENO;
 ghost use Prim.Native.Nat.{_≤_};
 
-// Prints what `hire` prints for a script, with the first room bytes of a record buffer.
-fn print_case(script: &[u8], room: usize) {
-    let mut record = [0u8; 65536];
+// Prints what `hire` prints for a script, with the first size bytes of a record buffer.
+fn print_case(script: &[u8], record: &mut [u8], size: usize) {
+    if record.len() < size {
+        return;
+    }
     let mut out = [0u8; 196620];
-    let size = wire::at_most(room, 65536);
     let end = hire_text::hire_text(script, &mut record[..size], &mut out);
     io::write_all(STDOUT_FILENO, &out[..end]);
     io::write_all(STDOUT_FILENO, b"--\n");
@@ -21,19 +22,22 @@ fn room_of(byte: u8) -> usize {
     byte as usize
 }
 
+fn length_of(high: u8, low: u8) -> usize
+    ensures { λ r. ⌜ r ≤ 65535 ⌝ }
+{
+    high as usize * 256 + low as usize
+}
+
 fn main() {
     let mut input = [0u8; 32768];
     let n = io::read_full(STDIN_FILENO, &mut input);
+    let mut record = [0u8; 65536];
     let mut at: usize = 0;
-    // A case has a byte at least.
     while at + 3 <= n {
         let room = room_of(input[at]);
         let start = at + 3;
-        let end = wire::at_most(
-            start + input[at + 1] as usize * 256 + input[at + 2] as usize,
-            n,
-        );
-        print_case(&input[start..end], room);
+        let end = wire::at_most(start + length_of(input[at + 1], input[at + 2]), n);
+        print_case(&input[start..end], &mut record, room);
         at = end;
     }
 }
