@@ -23,7 +23,9 @@ standing-fits room (result bytes) handed others h =
 
 asked-fits : (room : ℕ) (b : Bench) (qs : List Query) → length (asked room b qs .parts) ≤ room
 asked-fits room b [] = omega arith
-asked-fits room b (q ∷ qs) = standing-fits room _ _ _ (asked-fits _ _ qs)
+asked-fits room b (q ∷ qs) =
+    let p = part b q in
+    standing-fits room (p .answer) (p .handed) (asked (room - sizeOf (p .answer)) (p .bench) qs) (asked-fits (room - sizeOf (p .answer)) (p .bench) qs)
 
 begun-fits : (room : ℕ) (t : Turn) (a : Answer Progress) (qs : List Query) → length (begun room t a qs .parts) ≤ room
 begun-fits room t (refused n) qs = omega arith
