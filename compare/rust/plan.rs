@@ -9,6 +9,7 @@ pub type Values = BTreeMap<u8, Vec<(u16, Vec<u8>)>>;
 pub type Known = (usize, usize);
 
 /// What the log has to say, entry by entry.
+#[derive(Clone)]
 pub enum Expected {
     /// So many calls. All but the last answer 64, the last one answers code and count; all together send these bytes.
     Calls { calls: usize, code: u8, count: usize, sent: Vec<u8> },
@@ -27,6 +28,8 @@ pub struct Plan {
     pub script: Script,
     /// With the number of the case's call or piece.
     pub expected: Vec<(usize, Expected)>,
+    /// What came about in this case.
+    pub seen: Vec<&'static str>,
 }
 
 /// What was compared.
@@ -38,6 +41,8 @@ pub struct Tally {
     pub values: usize,
     /// Counts left out, as docs/DIFFERENCES.md says: unframed, of a PID that occurs more than 255 times.
     pub left_out: usize,
+    /// How often each thing came about.
+    pub seen: BTreeMap<&'static str, usize>,
 }
 
 impl Tally {
@@ -47,6 +52,9 @@ impl Tally {
         self.states += other.states;
         self.values += other.values;
         self.left_out += other.left_out;
+        for (name, times) in &other.seen {
+            *self.seen.entry(name).or_default() += times;
+        }
     }
 }
 
@@ -108,6 +116,9 @@ impl Plan {
         }
         if !log.is_read() {
             return Err("the log goes on".to_string());
+        }
+        for name in &self.seen {
+            *tally.seen.entry(name).or_default() += 1;
         }
         Ok(tally)
     }

@@ -151,7 +151,7 @@ impl Case for ServerCase {
         let mut text = String::new();
         let mut answered = 0;
         let mut done = 0;
-        for (n, piece) in self.pieces.iter().enumerate() {
+        for (n, piece) in self.pieces.iter().enumerate().filter(|(_, piece)| !piece.is_empty()) {
             stream.load(&[Arrival::Piece(piece.clone())], None);
             let mut from = 0;
             loop {
@@ -168,6 +168,10 @@ impl Case for ServerCase {
                 let (_, waiting) = hidden(&command, &mut text);
                 let to = stream.taken() - waiting - done;
                 let Handed { phase, text: handed, call, argument } = self.answer(command, &mut answered);
+                plan.seen.push(if phase == 1 { "AT commands" } else { "OBD commands" });
+                if piece[from..to].iter().all(|b| b.is_ascii_whitespace() || *b == 11) {
+                    plan.seen.push("repeats");
+                }
                 self.hand_over(&mut plan, n, &piece[from..], to - from, 64 + phase, sent);
                 look(&mut plan, n, state(&before, phase, handed));
                 plan.script.call(call, &argument);
