@@ -1,5 +1,5 @@
 //! Client sessions: the Rust's side of a case.
-use crate::driver::{client as kind, Driver, Log};
+use crate::driver::{client as kind, Driver, Log, Script};
 use crate::plan::{shown, Expected, Plan, Values};
 use crate::shrink::{shorter, Case};
 use crate::stream::{Arrival, Empty, Event, Stream};
@@ -130,14 +130,14 @@ fn seen(plan: &mut Plan, start: &Start, outcome: &Outcome, events: &[Event], bef
 }
 
 /// The call of the Rattle session that starts what the Rust's call does.
-fn started(plan: &mut Plan, start: &Start) {
+pub fn started(script: &mut Script, start: &Start) {
     match start {
-        Start::Init => plan.script.call(kind::INIT, &[]),
-        Start::Command(command) => plan.script.call(kind::COMMAND, command),
-        Start::Pid(pid, None) => plan.script.call(kind::QUERY_PID, &[*pid]),
-        Start::Pid(pid, Some(count)) => plan.script.call(kind::QUERY_PID, &[*pid, *count]),
-        Start::Pids(pids, None) => plan.script.call(kind::QUERY_PIDS, pids),
-        Start::Pids(pids, Some(count)) => plan.script.call(kind::QUERY_PIDS_COUNT, &[&[*count], &pids[..]].concat()),
+        Start::Init => script.call(kind::INIT, &[]),
+        Start::Command(command) => script.call(kind::COMMAND, command),
+        Start::Pid(pid, None) => script.call(kind::QUERY_PID, &[*pid]),
+        Start::Pid(pid, Some(count)) => script.call(kind::QUERY_PID, &[*pid, *count]),
+        Start::Pids(pids, None) => script.call(kind::QUERY_PIDS, pids),
+        Start::Pids(pids, Some(count)) => script.call(kind::QUERY_PIDS_COUNT, &[&[*count], &pids[..]].concat()),
     }
 }
 
@@ -171,7 +171,7 @@ impl Case for ClientCase {
             let after = state(&session, &mut text);
             seen(&mut plan, start, &outcome, &events, &before, &after);
             before = after.clone();
-            started(&mut plan, start);
+            started(&mut plan.script, start);
             plan.expected.push((n, answer(events.first(), 64, end)));
             for (i, event) in events.iter().enumerate() {
                 match event {
@@ -201,7 +201,7 @@ impl Case for ClientCase {
     }
 
     fn run<'a>(&self, driver: &'a mut Driver, plan: &Plan) -> Log<'a> {
-        driver.client(self.framing, self.repeat, 1, &plan.script)
+        driver.client(self.framing, self.repeat, &plan.script, 0, &Script::default())
     }
 
     fn smaller(&self) -> Vec<Self> {

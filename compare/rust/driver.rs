@@ -2,9 +2,11 @@
 
 extern "C" {
     fn driver_server(
-        rounds: usize,
         script: *const u8,
         script_len: usize,
+        rounds: usize,
+        again: *const u8,
+        again_len: usize,
         out: *mut u8,
         out_len: usize,
         log: *mut u8,
@@ -14,9 +16,11 @@ extern "C" {
     fn driver_client(
         framing: bool,
         repeat: bool,
-        rounds: usize,
         script: *const u8,
         script_len: usize,
+        rounds: usize,
+        again: *const u8,
+        again_len: usize,
         store: *mut u8,
         store_len: usize,
         out: *mut u8,
@@ -31,9 +35,12 @@ pub mod server {
     pub const STATE: u8 = 0;
     pub const BYTE: u8 = 1;
     pub const BYTES: u8 = 2;
-    pub const ANSWER: u8 = 3;
-    pub const REPLY: u8 = 4;
-    pub const REJECT: u8 = 5;
+    pub const REPLY: u8 = 3;
+    pub const REJECT: u8 = 4;
+    /// `answer` with the argument as the identity string for ATI, and ELM327 for AT@1.
+    pub const ANSWER_ATI: u8 = 5;
+    /// `answer` with ELM327 v1.5 for ATI, and the argument for AT@1.
+    pub const ANSWER_DEVICE: u8 = 6;
 }
 
 /// The kinds of calls on a client session.
@@ -131,33 +138,44 @@ impl Driver {
         Driver { store: vec![0xEE; 4096], out: vec![0xEE; 65_536], log: vec![0xEE; 16 << 20] }
     }
 
-    /// The log of the last of so many rounds of a script on a server session.
-    pub fn server(&mut self, rounds: usize, script: &Script) -> Log<'_> {
+    /// One whose log takes nothing.
+    pub fn silent() -> Self {
+        Driver { log: Vec::new(), ..Driver::new() }
+    }
+
+    /// A script on a new server session, and then another for so many rounds; the log of the last.
+    pub fn server(&mut self, script: &Script, rounds: usize, again: &Script) -> Log<'_> {
+        let (script, again) = (&script.bytes, &again.bytes);
         // Safety: each pointer comes with the length of its buffer, and the function asks nothing more.
         let end = unsafe {
             driver_server(
+                script.as_ptr(),
+                script.len(),
                 rounds,
-                script.bytes.as_ptr(),
-                script.bytes.len(),
+                again.as_ptr(),
+                again.len(),
                 self.out.as_mut_ptr(),
                 self.out.len(),
                 self.log.as_mut_ptr(),
                 self.log.len(),
             )
         };
-        self.log_to(end)
+        Log { left: &self.log[..end] }
     }
 
     /// The same on a client session.
-    pub fn client(&mut self, framing: bool, repeat: bool, rounds: usize, script: &Script) -> Log<'_> {
+    pub fn client(&mut self, framing: bool, repeat: bool, script: &Script, rounds: usize, again: &Script) -> Log<'_> {
+        let (script, again) = (&script.bytes, &again.bytes);
         // Safety: as above.
         let end = unsafe {
             driver_client(
                 framing,
                 repeat,
+                script.as_ptr(),
+                script.len(),
                 rounds,
-                script.bytes.as_ptr(),
-                script.bytes.len(),
+                again.as_ptr(),
+                again.len(),
                 self.store.as_mut_ptr(),
                 self.store.len(),
                 self.out.as_mut_ptr(),
@@ -166,11 +184,6 @@ impl Driver {
                 self.log.len(),
             )
         };
-        self.log_to(end)
-    }
-
-    fn log_to(&self, end: usize) -> Log<'_> {
-        assert!(end < self.log.len(), "the log is full");
         Log { left: &self.log[..end] }
     }
 }

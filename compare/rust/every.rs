@@ -1,6 +1,6 @@
 //! Cases that go through every input of a kind: all short texts, all PIDs, every length up to its limit, failures at every point.
 use crate::client::{Call, ClientCase, Start};
-use crate::server::{Answer, ServerCase};
+use crate::server::{Answer, Own, ServerCase};
 use crate::stream::Arrival;
 
 /// Takes the cases, one after the other.
@@ -37,7 +37,7 @@ fn session(framed: bool, calls: Vec<Call>) -> ClientCase {
 }
 
 fn reader(pieces: Vec<Vec<u8>>, answers: Vec<Answer>) -> ServerCase {
-    ServerCase { ati: "ELM327 v1.5".to_string(), device: "ELM327".to_string(), by_byte: false, pieces, answers }
+    ServerCase { own: Own::usual(), by_byte: false, pieces, answers }
 }
 
 /// All texts of at most so many of these bytes.
@@ -220,10 +220,10 @@ fn server_lengths(to: &mut impl Take) {
         }
     }
     for size in 0..=32 {
-        let mut case = reader(vec![b"ATI\rAT@1\rATZ\rATL0\rATI\rAT@1\rATZ\r".to_vec()], Vec::new());
-        case.ati = "a".repeat(size);
-        case.device = "d".repeat(32 - size);
-        to.server(case);
+        for own in [Own::Ati("a".repeat(size)), Own::Device("d".repeat(size))] {
+            let pieces = vec![b"ATI\rAT@1\rATZ\rATL0\rATI\rAT@1\rATZ\r".to_vec()];
+            to.server(ServerCase { own, ..reader(pieces, Vec::new()) });
+        }
     }
     for settings in 0..8 {
         let bit = |n: usize| settings >> n & 1;

@@ -1,4 +1,5 @@
 //! The Rust library beside the Rattle one: the same sessions through both.
+mod bench;
 mod client;
 mod driver;
 mod every;
@@ -80,6 +81,9 @@ impl Comparison {
 
 fn main() {
     let words: Vec<String> = std::env::args().skip(1).collect();
+    if words.first().is_some_and(|word| word == "bench") {
+        return bench::bench();
+    }
     let seed = number(&words, "--seed", 1);
     let calls = number(&words, "--calls", 1_000_000) as usize;
     let start = Instant::now();

@@ -1,7 +1,7 @@
 //! Random cases: what an ELM327 and its reader say, and damaged copies of it.
 use crate::client::{Call, ClientCase, Start};
 use crate::rng::Rng;
-use crate::server::{Answer, Line, ServerCase};
+use crate::server::{Answer, Line, Own, ServerCase};
 use crate::stream::Arrival;
 use tachtalk_elm327_lib::MODE01_PID_DATA_LENGTHS;
 
@@ -397,10 +397,12 @@ pub fn server(rng: &mut Rng) -> ServerCase {
         text.pop();
     }
     within_lines(&mut text);
-    let standard = rng.chance(70);
     ServerCase {
-        ati: if standard { "ELM327 v1.5".to_string() } else { word(rng, 32) },
-        device: if standard { "ELM327".to_string() } else { word(rng, 32) },
+        own: match rng.below(8) {
+            0 => Own::Ati(word(rng, 32)),
+            1 => Own::Device(word(rng, 32)),
+            _ => Own::usual(),
+        },
         by_byte: rng.chance(40),
         pieces: pieces(rng, &text, 200),
         answers: (0..rng.from(0, 3)).map(|_| answer(rng)).collect(),

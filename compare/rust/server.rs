@@ -1,5 +1,5 @@
 //! Server sessions: the Rust's side of a case.
-use crate::driver::{server as kind, Driver, Log};
+use crate::driver::{server as kind, Driver, Log, Script};
 use crate::plan::{shown, Expected, Plan};
 use crate::shrink::{shorter, Case};
 use crate::stream::{Arrival, Empty, Stream};
@@ -17,11 +17,38 @@ pub enum Answer {
     Text(String),
 }
 
+/// An identity string of the session's own; the other is the usual one, ELM327 v1.5 for ATI and ELM327 for AT@1.
+#[derive(Clone, Debug)]
+pub enum Own {
+    Ati(String),
+    Device(String),
+}
+
+impl Own {
+    pub fn usual() -> Own {
+        Own::Device("ELM327".to_string())
+    }
+
+    fn identity(&self) -> Identity {
+        match self.clone() {
+            Own::Ati(ati) => Identity { ati, ..Identity::default() },
+            Own::Device(device_description) => Identity { device_description, ..Identity::default() },
+        }
+    }
+
+    /// The call of `answer`, and its argument.
+    pub fn answer(&self) -> (u8, Vec<u8>) {
+        match self {
+            Own::Ati(text) => (kind::ANSWER_ATI, text.as_bytes().to_vec()),
+            Own::Device(text) => (kind::ANSWER_DEVICE, text.as_bytes().to_vec()),
+        }
+    }
+}
+
 /// What a reader sends, piece by piece, and how the OBD commands in it are answered, over and over.
 #[derive(Clone)]
 pub struct ServerCase {
-    pub ati: String,
-    pub device: String,
+    pub own: Own,
     /// The Rattle session is given each byte by a call of its own.
     pub by_byte: bool,
     pub pieces: Vec<Vec<u8>>,
@@ -75,14 +102,6 @@ pub fn reply_lines(lines: &[Line]) -> Vec<ReplyLine> {
     lines.iter().map(|(ecu, data)| ReplyLine { ecu: *ecu, data: data[..].into() }).collect()
 }
 
-/// The argument of a call of `answer`.
-pub fn identities(ati: &str, device: &str) -> Vec<u8> {
-    let mut bytes = vec![ati.len() as u8];
-    bytes.extend_from_slice(ati.as_bytes());
-    bytes.extend_from_slice(device.as_bytes());
-    bytes
-}
-
 fn state(of: &ClientState, phase: u8, line: Vec<u8>) -> Expected {
     Expected::Server {
         settings: [of.echo_enabled, of.linefeeds_enabled, of.spaces_enabled, of.headers_enabled],
@@ -99,7 +118,8 @@ impl ServerCase {
             Command::At(command) => {
                 let text = command.command().as_bytes().to_vec();
                 command.answer().expect("the stream takes all");
-                Handed { phase: 1, text, call: kind::ANSWER, argument: identities(&self.ati, &self.device) }
+                let (call, argument) = self.own.answer();
+                Handed { phase: 1, text, call, argument }
             }
             Command::Obd(command) => {
                 let text = command.command().as_bytes().to_vec();
@@ -146,8 +166,7 @@ impl Case for ServerCase {
     fn plan(&self) -> Plan {
         let mut plan = Plan::default();
         let stream = Stream::new(Empty::WouldBlock);
-        let identity = Identity { ati: self.ati.clone(), device_description: self.device.clone() };
-        let mut session = ServerSession::new(stream.clone(), identity);
+        let mut session = ServerSession::new(stream.clone(), self.own.identity());
         let mut text = String::new();
         let mut answered = 0;
         let mut done = 0;
@@ -189,7 +208,7 @@ impl Case for ServerCase {
     }
 
     fn run<'a>(&self, driver: &'a mut Driver, plan: &Plan) -> Log<'a> {
-        driver.server(1, &plan.script)
+        driver.server(&plan.script, 0, &Script::default())
     }
 
     fn smaller(&self) -> Vec<Self> {
@@ -225,8 +244,9 @@ impl Case for ServerCase {
                 }
             }
         }
-        if !self.ati.is_empty() || !self.device.is_empty() {
-            cases.push(ServerCase { ati: String::new(), device: String::new(), ..self.clone() });
+        let (Own::Ati(text) | Own::Device(text)) = &self.own;
+        if !text.is_empty() {
+            cases.push(ServerCase { own: Own::Device(String::new()), ..self.clone() });
         }
         if self.by_byte {
             cases.push(ServerCase { by_byte: false, ..self.clone() });
@@ -235,7 +255,7 @@ impl Case for ServerCase {
     }
 
     fn show(&self) -> String {
-        let mut text = format!("server session, identity {:?} and {:?}", self.ati, self.device);
+        let mut text = format!("server session, identity {:?}", self.own);
         if self.by_byte {
             text += ", byte by byte";
         }

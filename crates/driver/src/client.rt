@@ -4,17 +4,30 @@ use client_session::ClientSession;
 use client_session::Failure;
 use client_session::FinishAnswer;
 use client_session::PieceAnswer;
-use client_session::PieceStep;
 use client_session::StartAnswer;
-use client_session::StartStep;
 use client_session::Under;
 use pid::DataLength;
 use query::EcuCount;
 use server_state::FeatureSupport;
 use server_state::ServerState;
+ghost use mathlib.Core.Path.{_≡_};
+ghost use lib.ListN.{take, drop};
+ghost use Rattle.wire.specs.Put.{Put};
+ghost use Rattle.pid.specs.Lengths.{dataLength};
+ghost use Rattle.query.specs.Query.{countOf};
+ghost use Rattle.query_text.specs.Text.{text};
+ghost use Rattle.client_session.specs.Session.{client};
+ghost use Rattle.client_session.specs.Start.{startAnswer};
+ghost use Rattle.client_session.specs.Piece.{pieceAnswer};
+ghost use Rattle.client_session.specs.Finish.{finishAnswer};
+ghost use Rattle.driver.specs.Log.{textEntry};
+ghost use Rattle.driver.specs.Script.{calls};
+ghost use Rattle.driver.specs.Client.{startCode, pieceCode, finishCode, finishCount, supportCode, underCode, lengthNumber, pidsEntry, stateEntry, countGiven, clientCall, clientTurn, clientStart};
 
 // The codes of answers: a number of document 01 as itself, and a result as 64 or more.
-fn start_code(answer: StartAnswer) -> u8 {
+fn start_code(answer: StartAnswer) -> u8
+    ensures { λ r. ⌜ r ≡ startCode (startAnswer answer) ⌝ }
+{
     match answer {
         StartAnswer::Sent => 64,
         StartAnswer::OutOfTurn => 1,
@@ -25,7 +38,9 @@ fn start_code(answer: StartAnswer) -> u8 {
     }
 }
 
-fn piece_code(answer: PieceAnswer) -> u8 {
+fn piece_code(answer: PieceAnswer) -> u8
+    ensures { λ r. ⌜ r ≡ pieceCode (pieceAnswer answer) ⌝ }
+{
     match answer {
         PieceAnswer::Awaited => 64,
         PieceAnswer::Sent => 65,
@@ -40,7 +55,9 @@ fn piece_code(answer: PieceAnswer) -> u8 {
     }
 }
 
-fn finish_code(answer: FinishAnswer) -> u8 {
+fn finish_code(answer: FinishAnswer) -> u8
+    ensures { λ r. ⌜ r ≡ finishCode (finishAnswer answer) ⌝ }
+{
     match answer {
         FinishAnswer::Values(_) => 64,
         FinishAnswer::OutOfTurn => 1,
@@ -50,7 +67,9 @@ fn finish_code(answer: FinishAnswer) -> u8 {
 }
 
 // How many values a finish gave.
-fn finish_count(answer: FinishAnswer) -> usize {
+fn finish_count(answer: FinishAnswer) -> usize
+    ensures { λ r. ⌜ r ≡ finishCount (finishAnswer answer) ⌝ }
+{
     match answer {
         FinishAnswer::Values(count) => count,
         FinishAnswer::OutOfTurn => 0,
@@ -59,7 +78,9 @@ fn finish_count(answer: FinishAnswer) -> usize {
     }
 }
 
-fn support_code(support: FeatureSupport) -> u8 {
+fn support_code(support: FeatureSupport) -> u8
+    ensures { λ r. ⌜ r ≡ supportCode support ⌝ }
+{
     match support {
         FeatureSupport::Unknown => 0,
         FeatureSupport::Yes => 1,
@@ -67,7 +88,9 @@ fn support_code(support: FeatureSupport) -> u8 {
     }
 }
 
-fn under_code(under: Under) -> u8 {
+fn under_code(under: Under) -> u8
+    ensures { λ r. ⌜ r ≡ underCode under ⌝ }
+{
     match under {
         Under::Nothing => 0,
         Under::Reset => 1,
@@ -80,7 +103,9 @@ fn under_code(under: Under) -> u8 {
 }
 
 // The length of a PID's data, 256 where it is unknown.
-fn length_number(length: DataLength) -> usize {
+fn length_number(length: DataLength) -> usize
+    ensures { λ r. ⌜ r ≡ lengthNumber (dataLength «length») ⌝ }
+{
     match length {
         DataLength::Known(n) => n as usize,
         DataLength::Unknown => 256,
@@ -88,15 +113,39 @@ fn length_number(length: DataLength) -> usize {
 }
 
 // A learned count and 1, 0 for none.
-fn count_number(count: EcuCount) -> usize {
+fn count_number(count: EcuCount) -> usize
+    ensures { λ r. ⌜ r ≡ countOf count ⌝ }
+{
     match count {
         EcuCount::Any => 0,
         EcuCount::Given(n) => n as usize + 1,
     }
 }
 
+// The count in the second byte of an argument, if it has one.
+fn count_given(arg: &[u8]) -> EcuCount
+    ensures { λ r. ⌜ countOf r ≡ countGiven (now (arg .entry)) ⌝ }
+{
+    if arg.len() < 2 {
+        return EcuCount::Any;
+    }
+    EcuCount::Given(arg[1])
+}
+
+// An argument without its first byte.
+fn after_first(arg: &[u8]) -> &[u8]
+    ensures { λ r. ⌜ now r ≡ drop 1 (now (arg .entry)) ⌝ }
+{
+    if arg.len() == 0 {
+        return arg;
+    }
+    &arg[1..]
+}
+
 // What is known of each PID in a list.
-fn put_pids(server: ServerState, pids: &[u8], log: &mut [u8], at: usize) -> usize {
+fn put_pids(server: ServerState, pids: &[u8], log: &mut [u8], at: usize) -> usize
+    ensures { λ r. ⌜ Put (now (log .entry)) at (pidsEntry (server .«pid_lengths») (server .«ecu_counts») (now (pids .entry))) r (now (log .exit)) ⌝ }
+{
     let mut at = at;
     let mut i: usize = 0;
     while i < pids.len() {
@@ -108,7 +157,9 @@ fn put_pids(server: ServerState, pids: &[u8], log: &mut [u8], at: usize) -> usiz
     at
 }
 
-fn put_last(session: ClientSession, log: &mut [u8], at: usize) -> usize {
+fn put_last(session: ClientSession, log: &mut [u8], at: usize) -> usize
+    ensures { λ r. ⌜ Put (now (log .entry)) at (textEntry (client session .known .last)) r (now (log .exit)) ⌝ }
+{
     let last = session.last;
     let bytes = last.bytes;
     let size = wire::at_most(last.len, 18);
@@ -116,7 +167,9 @@ fn put_last(session: ClientSession, log: &mut [u8], at: usize) -> usize {
 }
 
 // The entry of a session's state: framing, repeat, multi-PID support, what is under way, the last query, and what is known of the PIDs in the argument.
-fn put_state(session: ClientSession, arg: &[u8], log: &mut [u8], at: usize) -> usize {
+fn put_state(session: ClientSession, arg: &[u8], log: &mut [u8], at: usize) -> usize
+    ensures { λ r. ⌜ Put (now (log .entry)) at (stateEntry (client session) (now (arg .entry))) r (now (log .exit)) ⌝ }
+{
     let server = session.server;
     let under = session.under;
     let at = wire::put_byte(log, at, crate::flag(server.framing()));
@@ -127,149 +180,12 @@ fn put_state(session: ClientSession, arg: &[u8], log: &mut [u8], at: usize) -> u
     put_pids(server, arg, log, at)
 }
 
-fn started(step: StartStep, out: &[u8], log: &mut [u8], at: usize) -> ClientTurn {
-    let answer = step.answer;
-    let next = step.session;
-    ClientTurn {
-        session: next,
-        at: crate::put_call(log, at, start_code(answer), 0, out, step.written),
-    }
-}
-
-fn progressed(step: PieceStep, out: &[u8], log: &mut [u8], at: usize) -> ClientTurn {
-    let answer = step.answer;
-    let next = step.session;
-    ClientTurn {
-        session: next,
-        at: crate::put_call(log, at, piece_code(answer), 0, out, step.written),
-    }
-}
-
-// The argument is a PID, and the number of ECUs if one is given.
-fn query_pid(
-    session: ClientSession,
-    arg: &[u8],
-    out: &mut [u8],
-    log: &mut [u8],
-    at: usize,
-) -> ClientTurn {
-    if arg.len() == 0 {
-        return ClientTurn { session, at };
-    }
-    if arg.len() == 1 {
-        let step = session.query_pid(arg[0], EcuCount::Any, out);
-        return started(step, out, log, at);
-    }
-    let step = session.query_pid(arg[0], EcuCount::Given(arg[1]), out);
-    started(step, out, log, at)
-}
-
-// The argument is the number of ECUs, and the PIDs.
-fn query_pids(
-    session: ClientSession,
-    arg: &[u8],
-    out: &mut [u8],
-    log: &mut [u8],
-    at: usize,
-) -> ClientTurn {
-    if arg.len() == 0 {
-        return ClientTurn { session, at };
-    }
-    let step = session.query_pids(&arg[1..], EcuCount::Given(arg[0]), out);
-    started(step, out, log, at)
-}
-
-fn finish(
-    session: ClientSession,
-    store: &[u8],
-    out: &mut [u8],
-    log: &mut [u8],
-    at: usize,
-) -> ClientTurn {
-    let step = session.finish(store, out);
-    let answer = step.answer;
-    let next = step.session;
-    ClientTurn {
-        session: next,
-        at: crate::put_call(
-            log,
-            at,
-            finish_code(answer),
-            finish_count(answer),
-            out,
-            step.written,
-        ),
-    }
-}
-
-// A call that starts something.
-fn start(
-    session: ClientSession,
-    kind: u8,
-    arg: &[u8],
-    out: &mut [u8],
-    log: &mut [u8],
-    at: usize,
-) -> ClientTurn {
-    match kind {
-        1 => {
-            let step = session.init(out);
-            started(step, out, log, at)
-        }
-        2 => {
-            let step = session.command(arg, out);
-            started(step, out, log, at)
-        }
-        3 => query_pid(session, arg, out, log, at),
-        4 => {
-            let step = session.query_pids(arg, EcuCount::Any, out);
-            started(step, out, log, at)
-        }
-        5 => query_pids(session, arg, out, log, at),
-        _ => ClientTurn { session, at },
-    }
-}
-
 // The entry of the reply so far, as the store holds it: after a raw command, its reply.
-fn put_reply(session: ClientSession, store: &[u8], log: &mut [u8], at: usize) -> usize {
+fn put_reply(session: ClientSession, store: &[u8], log: &mut [u8], at: usize) -> usize
+    ensures { λ r. ⌜ Put (now (log .entry)) at (textEntry (take (client session .got) (now (store .entry)))) r (now (log .exit)) ⌝ }
+{
     let size = wire::at_most(session.got, store.len());
     crate::put_text(log, at, &store[..size])
-}
-
-// One call of a script.
-fn call(
-    session: ClientSession,
-    kind: u8,
-    arg: &[u8],
-    store: &mut [u8],
-    out: &mut [u8],
-    log: &mut [u8],
-    at: usize,
-) -> ClientTurn {
-    match kind {
-        0 => ClientTurn {
-            session,
-            at: put_state(session, arg, log, at),
-        },
-        6 => {
-            let step = session.piece(arg, store, out);
-            progressed(step, out, log, at)
-        }
-        7 => {
-            let step = session.failure(Failure::Read, out);
-            progressed(step, out, log, at)
-        }
-        8 => {
-            let step = session.failure(Failure::Write, out);
-            progressed(step, out, log, at)
-        }
-        9 => finish(session, store, out, log, at),
-        10 => ClientTurn {
-            session,
-            at: put_reply(session, store, log, at),
-        },
-        _ => start(session, kind, arg, out, log, at),
-    }
 }
 
 // The calls of a script, one after the other.
@@ -279,25 +195,88 @@ pub fn run(
     store: &mut [u8],
     out: &mut [u8],
     log: &mut [u8],
-) -> ClientTurn {
+) -> ClientTurn
+    ensures { λ r. ⌜ clientTurn r (now (store .exit)) (now (out .exit)) (now (log .exit)) ≡ calls clientCall (clientStart (client session) (now (store .entry)) (now (out .entry)) (now (log .entry))) (now (script .entry)) ⌝ }
+{
     let mut session = session;
     let mut from: usize = 0;
     let mut at: usize = 0;
     while 3 <= script.len() - from {
         let start = from + 3;
         let end = start + crate::argument_size(script, from);
-        let turn = call(
-            session,
-            script[from],
-            &script[start..end],
-            store,
-            out,
-            log,
-            at,
-        );
-        session = turn.session;
-        at = turn.at;
+        let kind = script[from];
         from = end;
+        match kind {
+            0 => {
+                at = put_state(session, &script[start..end], log, at);
+            }
+            1 => {
+                let step = session.init(out);
+                let answer = step.answer;
+                session = step.session;
+                at = crate::put_call(log, at, start_code(answer), 0, out, step.written);
+            }
+            2 => {
+                let step = session.command(&script[start..end], out);
+                let answer = step.answer;
+                session = step.session;
+                at = crate::put_call(log, at, start_code(answer), 0, out, step.written);
+            }
+            3 => {
+                let count = count_given(&script[start..end]);
+                let step = session.query_pid(crate::byte_of(&script[start..end], 0), count, out);
+                let answer = step.answer;
+                session = step.session;
+                at = crate::put_call(log, at, start_code(answer), 0, out, step.written);
+            }
+            4 => {
+                let step = session.query_pids(&script[start..end], EcuCount::Any, out);
+                let answer = step.answer;
+                session = step.session;
+                at = crate::put_call(log, at, start_code(answer), 0, out, step.written);
+            }
+            5 => {
+                let count = EcuCount::Given(crate::byte_of(&script[start..end], 0));
+                let step = session.query_pids(after_first(&script[start..end]), count, out);
+                let answer = step.answer;
+                session = step.session;
+                at = crate::put_call(log, at, start_code(answer), 0, out, step.written);
+            }
+            6 => {
+                let step = session.piece(&script[start..end], store, out);
+                let answer = step.answer;
+                session = step.session;
+                at = crate::put_call(log, at, piece_code(answer), 0, out, step.written);
+            }
+            7 => {
+                let step = session.failure(Failure::Read, out);
+                let answer = step.answer;
+                session = step.session;
+                at = crate::put_call(log, at, piece_code(answer), 0, out, step.written);
+            }
+            8 => {
+                let step = session.failure(Failure::Write, out);
+                let answer = step.answer;
+                session = step.session;
+                at = crate::put_call(log, at, piece_code(answer), 0, out, step.written);
+            }
+            9 => {
+                let step = session.finish(store, out);
+                let answer = step.answer;
+                session = step.session;
+                at = crate::put_call(
+                    log,
+                    at,
+                    finish_code(answer),
+                    finish_count(answer),
+                    out,
+                    step.written,
+                );
+            }
+            _ => {
+                at = put_reply(session, store, log, at);
+            }
+        }
     }
     ClientTurn { session, at }
 }

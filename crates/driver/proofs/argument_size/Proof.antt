@@ -1,6 +1,6 @@
 -- `driver::argument_size` meets its contract.
-use Prim.Native.Nat.{_+_}
 use native.Mathlib.Omega.{arith}
+use Prim.Native.Nat.{_+_}
 use borrow.Author.Needs.{needs}
 use Rattle.driver.proofs.argument_size.Statement.{statement}
 use Rattle.driver.proofs.argument_size.Tie as tie

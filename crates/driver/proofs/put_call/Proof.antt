@@ -1,9 +1,14 @@
 -- `driver::put_call` meets its contract.
 use lib.ListN.{length-take}
 use native.Mathlib.Omega.{arith}
+use Rattle.driver.proofs.LogLaws.{put-past, take-within}
+use Rattle.wire.proofs.PutLaws.{put-then}
 use borrow.Author.Needs.{needs}
 use Rattle.driver.proofs.put_call.Statement.{statement}
 use Rattle.driver.proofs.put_call.Tie as tie
+
+returns : tie.Need-returns
+returns c = put-past _ _ _ (c .if1 .taken)
 
 put-byte-requires : tie.Need-put-byte-requires
 put-byte-requires c κs = search needs
@@ -23,17 +28,18 @@ put-text-requires c κs = search needs
 same-length : tie.Need-same-length
 same-length c = search needs
 
-returns : tie.Need-returns
-returns c = search needs
+returns-2 : tie.Need-returns-2
+returns-2 c = rw (← take-within (c .before .before .before .before .before .before .before .before .before .before .before .before .before .before .before .before .before .args .written) _ (c .before .before .before .before .before .before .before .before .before .before .before .before .before .before .before .before .before .args .out .now) (c .before .before .before .before .before .at-most .ensures)) (put-then (c .before .before .before .before .before .before .before .before .before .before .before .before .put-byte .ensures) (put-then (c .before .before .before .before .before .before .before .before .put-number .ensures) (c .before .before .put-text .ensures)))
 
 pub put-call-spec : {M : Type 1} → statement M
 put-call-spec =
     tie.close
     (tie.spec
+    returns
     put-byte-requires
     put-number-requires
     at-most-requires
     slice-aggregate-put-text
     put-text-requires
     same-length
-    returns)
+    returns-2)

@@ -1,4 +1,5 @@
 -- `driver::client::put_last` meets its contract.
+use Rattle.query_text.proofs.KeptLaws.{text-within}
 use mathlib.Core.Path.{_≡_}
 use lib.ListN.{length, length-take}
 use native.Mathlib.Omega.{arith}
@@ -22,7 +23,7 @@ same-length : tie.Need-same-length
 same-length c = search needs
 
 returns : tie.Need-returns
-returns c = search needs
+returns c = let h : length (c .before .before .before .before .before .before .before .before .before .args .session .last .bytes) ≡ 18 = search needs in rw (← text-within (c .before .before .before .before .before .before .before .before .before .args .session .last) h (c .before .before .before .before .before .at-most .ensures)) (c .before .before .put-text .ensures)
 
 pub put-last-spec : {M : Type 1} → statement M
 put-last-spec =

@@ -1,4 +1,5 @@
 -- `driver::client::put_reply` meets its contract.
+use Rattle.driver.proofs.LogLaws.{take-within}
 use lib.ListN.{length-take}
 use native.Mathlib.Omega.{arith}
 use borrow.Author.Needs.{needs}
@@ -18,7 +19,7 @@ same-length : tie.Need-same-length
 same-length c = search needs
 
 returns : tie.Need-returns
-returns c = search needs
+returns c = rw (← take-within (c .before .before .before .before .before .before .before .before .args .session .got) _ (c .before .before .before .before .before .before .before .before .args .store .now) (c .before .before .before .before .before .at-most .ensures)) (c .before .before .put-text .ensures)
 
 pub put-reply-spec : {M : Type 1} → statement M
 put-reply-spec =

@@ -1,6 +1,7 @@
 -- `driver::server::put_last` meets its contract.
-use mathlib.Core.Path.{_≡_}
-use lib.ListN.{length, length-take}
+use Rattle.wire.proofs.ListLaws.{take-cut}
+use mathlib.Core.Path.{_≡_, ap, _∙_}
+use lib.ListN.{length, take, length-take}
 use native.Mathlib.Omega.{arith}
 use borrow.Author.Needs.{needs}
 use Rattle.driver.proofs.server.put_last.Statement.{statement}
@@ -22,7 +23,7 @@ same-length : tie.Need-same-length
 same-length c = search needs
 
 returns : tie.Need-returns
-returns c = search needs
+returns c = rw (← take-cut (c .before .before .before .before .before .before .before .before .args .state .«last_len») (c .before .before .before .before .before .before .before .before .args .state .«last_obd_command»), ← c .before .before .before .before .before .last-size .ensures) (c .before .before .put-text .ensures)
 
 pub put-last-spec : {M : Type 1} → statement M
 put-last-spec =

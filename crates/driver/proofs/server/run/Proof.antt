@@ -1,19 +1,67 @@
--- `driver::server::run` meets its contract.
+-- `driver::server::run` meets its contract. The invariant: the calls that are left, on the session as it is now, come to what the whole script comes to.
+use mathlib.Core.List.{List}
+use mathlib.Core.Path.{_≡_, refl, sym, ap, _∙_}
+use Prim.Native.Nat.{ℕ, _+_, _-_, _≤_, _<_}
+use native.Mathlib.Omega.{arith}
+use lib.ListN.{length, take, drop, getD}
 use borrow.Author.Needs.{needs}
-use Prim.Native.Nat.{_≤_, _-_}
-use mathlib.Core.Path.{_≡_}
-use lib.ListN.{length}
+use Rattle.server_session.specs.declared.ServerSession.{ServerSession}
+use Rattle.server_session.specs.Session.{Session, session, lent}
+use Rattle.server_session.specs.Bytes.{byteSays}
+use Rattle.driver.specs.Log.{Turn}
+use Rattle.driver.specs.Script.{calls}
+use Rattle.driver.specs.Server.{serverCall, byteNoted, bytesNoted, sentNoted}
+use Rattle.driver.proofs.LogLaws.{noted-is, answered-is}
+use Rattle.driver.proofs.ScriptLaws.{calls-turn, calls-end}
+use Rattle.driver.proofs.CallLaws.{server-rest}
 use Rattle.driver.proofs.server.run.Statement.{statement}
 use Rattle.driver.proofs.server.run.Tie as tie
 
+abbrev turn : ServerSession → ℕ → List ℕ → List ℕ → Turn Session
+turn s at out log = record { session = session s; at = at; out = out; log = log }
+
 abbrev Inv-loop : tie.InvT-loop
-Inv-loop script out₀ log₀ session₀ from₀ at₀ out log session from at = (from ≤ length script) × (length log ≡ length log₀) × (length out ≡ length out₀)
+Inv-loop script out₀ log₀ server₀ from₀ at₀ t23 t24 out log server from at =
+    (from ≤ length script) × (length out ≡ length out₀) × (length log ≡ length log₀) ×
+    (calls serverCall (turn server at out log) (drop from script) ≡ calls serverCall (turn server₀ 0 out₀ log₀) script)
 
 abbrev μ-loop : tie.MeasureT-loop
-μ-loop script out₀ log₀ session₀ from₀ at₀ out log session from at = length script - from
+μ-loop script out₀ log₀ server₀ from₀ at₀ t23 t24 out log server from at = length script - from
+
+-- At a call: the turn so far, the call's argument, and what follows from what the call does.
+module _ (k : tie.After-shared-slice-known2 Inv-loop μ-loop) where
+  abbrev head : tie.At-loop Inv-loop μ-loop
+  head = k .before .before .before
+
+  abbrev given : List ℕ
+  given = head .before .before .before .before .args .script .now
+
+  abbrev from : ℕ
+  from = head .loop .from
+
+  abbrev size : ℕ
+  size = k .before .argument-size .result
+
+  abbrev here : Turn Session
+  here = turn (head .loop .server) (head .loop .at) (head .loop .out) (head .loop .log)
+
+  abbrev argument : List ℕ
+  argument = take (from + 3 + size - (from + 3)) (drop (from + 3) given)
+
+  there : from + 3 + size ≤ length given
+  there = omega (arith, k .before .argument-size .ensures, k .before .before .loop-test .taken)
+
+  less : length given - (from + 3 + size) < length given - from
+  less = omega (arith, k .before .before .loop-test .taken)
+
+  turned : (kind : ℕ) (u : Turn Session) → getD given from 0 ≡ kind → u ≡ serverCall here kind argument →
+      calls serverCall u (drop (from + 3 + size) given) ≡
+      calls serverCall (turn (head .before .before .before .before .args .server) 0 (head .before .before .before .before .args .out .now) (head .before .before .before .before .args .log .now)) given
+  turned kind u e w =
+      calls-turn serverCall here u given from size kind (k .before .before .loop-test .taken) (k .before .argument-size .ensures) e w ∙ head .loop .inv .3
 
 loop-holds : tie.Need-loop-holds Inv-loop μ-loop
-loop-holds c = search needs
+loop-holds c = (omega arith, refl, refl, refl)
 
 sub-loop : tie.Need-sub-loop Inv-loop μ-loop
 sub-loop c = search needs
@@ -27,26 +75,170 @@ argument-size-requires c κs = search needs
 add-end : tie.Need-add-end Inv-loop μ-loop
 add-end c = search needs
 
-shared-slice-read-call : tie.Need-shared-slice-read-call Inv-loop μ-loop
-shared-slice-read-call c = search needs
+shared-slice-read-kind : tie.Need-shared-slice-read-kind Inv-loop μ-loop
+shared-slice-read-kind c = search needs
 
-sub-call : tie.Need-sub-call Inv-loop μ-loop
-sub-call c = search needs
-
-part-call-start : tie.Need-part-call-start Inv-loop μ-loop
-part-call-start c = search needs
-
-part-call-end : tie.Need-part-call-end Inv-loop μ-loop
-part-call-end c = search needs
-
-call-requires : tie.Need-call-requires Inv-loop μ-loop
-call-requires c κs = search needs
+put-state-requires : tie.Need-put-state-requires Inv-loop μ-loop
+put-state-requires c κs = search needs
 
 loop-less : tie.Need-loop-less Inv-loop μ-loop
-loop-less c = search needs
+loop-less c = less (c .before .before .before .before .before)
 
 loop-again : tie.Need-loop-again Inv-loop μ-loop
-loop-again c = search needs
+loop-again c = let k = c .before .before .before .before .before in (there k, search needs, search needs, turned k 0 _ (c .before .before .before .before .match .keys1) (noted-is _ (c .before .before .put-state .ensures)))
+
+sub-byte-of : tie.Need-sub-byte-of Inv-loop μ-loop
+sub-byte-of c = search needs
+
+part-byte-of-start : tie.Need-part-byte-of-start Inv-loop μ-loop
+part-byte-of-start c = search needs
+
+part-byte-of-end : tie.Need-part-byte-of-end Inv-loop μ-loop
+part-byte-of-end c = search needs
+
+byte-of-requires : tie.Need-byte-of-requires Inv-loop μ-loop
+byte-of-requires c κs = search needs
+
+byte-requires : tie.Need-byte-requires Inv-loop μ-loop
+byte-requires c κs = search needs
+
+byte-code-requires : tie.Need-byte-code-requires Inv-loop μ-loop
+byte-code-requires c κs = search needs
+
+put-call-requires : tie.Need-put-call-requires Inv-loop μ-loop
+put-call-requires c κs = search needs
+
+loop-less-2 : tie.Need-loop-less-2 Inv-loop μ-loop
+loop-less-2 c = less (c .before .before .before .before .before .before .before .before .before .before .before .before .before .before)
+
+loop-again-2 : tie.Need-loop-again-2 Inv-loop μ-loop
+loop-again-2 c = let k = c .before .before .before .before .before .before .before .before .before .before .before .before .before .before in (there k, search needs, search needs, turned k 1 _ (c .before .before .before .before .before .before .before .before .before .before .before .before .before .match .keys2) (answered-is _ 0 (c .before .before .before .before .before .before .before .before .before .byte .result .written) (c .before .before .before .before .byte-code .ensures) (c .before .before .put-call .ensures) ∙ ap (byteNoted (here k)) (c .before .before .before .before .before .before .before .before .before .byte .ensures) ∙ ap (λ b. byteNoted (here k) (lent (byteSays (length (here k .out)) (here k .session) b) (here k .out))) (c .before .before .before .before .before .before .before .before .before .before .before .byte-of .ensures)))
+
+sub-bytes : tie.Need-sub-bytes Inv-loop μ-loop
+sub-bytes c = search needs
+
+part-bytes-start : tie.Need-part-bytes-start Inv-loop μ-loop
+part-bytes-start c = search needs
+
+part-bytes-end : tie.Need-part-bytes-end Inv-loop μ-loop
+part-bytes-end c = search needs
+
+bytes-requires : tie.Need-bytes-requires Inv-loop μ-loop
+bytes-requires c κs = search needs
+
+byte-code-requires-2 : tie.Need-byte-code-requires-2 Inv-loop μ-loop
+byte-code-requires-2 c κs = search needs
+
+put-call-requires-2 : tie.Need-put-call-requires-2 Inv-loop μ-loop
+put-call-requires-2 c κs = search needs
+
+loop-less-3 : tie.Need-loop-less-3 Inv-loop μ-loop
+loop-less-3 c = less (c .before .before .before .before .before .before .before .before .before .before .before .before .before)
+
+loop-again-3 : tie.Need-loop-again-3 Inv-loop μ-loop
+loop-again-3 c = let k = c .before .before .before .before .before .before .before .before .before .before .before .before .before in (there k, search needs, search needs, turned k 2 _ (c .before .before .before .before .before .before .before .before .before .before .before .before .match .keys3) (answered-is _ (c .before .before .before .before .before .before .before .before .before .bytes .result .taken) (c .before .before .before .before .before .before .before .before .before .bytes .result .written) (c .before .before .before .before .byte-code2 .ensures) (c .before .before .put-call2 .ensures) ∙ ap (bytesNoted (here k)) (c .before .before .before .before .before .before .before .before .before .bytes .ensures)))
+
+sub-reply : tie.Need-sub-reply Inv-loop μ-loop
+sub-reply c = search needs
+
+part-reply-start : tie.Need-part-reply-start Inv-loop μ-loop
+part-reply-start c = search needs
+
+part-reply-end : tie.Need-part-reply-end Inv-loop μ-loop
+part-reply-end c = search needs
+
+reply-requires : tie.Need-reply-requires Inv-loop μ-loop
+reply-requires c κs = search needs
+
+sent-code-requires : tie.Need-sent-code-requires Inv-loop μ-loop
+sent-code-requires c κs = search needs
+
+put-call-requires-3 : tie.Need-put-call-requires-3 Inv-loop μ-loop
+put-call-requires-3 c κs = search needs
+
+loop-less-4 : tie.Need-loop-less-4 Inv-loop μ-loop
+loop-less-4 c = less (c .before .before .before .before .before .before .before .before .before .before .before .before .before)
+
+loop-again-4 : tie.Need-loop-again-4 Inv-loop μ-loop
+loop-again-4 c = let k = c .before .before .before .before .before .before .before .before .before .before .before .before .before in (there k, search needs, search needs, turned k 3 _ (c .before .before .before .before .before .before .before .before .before .before .before .before .match .keys4) (answered-is _ 0 (c .before .before .before .before .before .before .before .before .before .reply .result .written) (c .before .before .before .before .sent-code .ensures) (c .before .before .put-call3 .ensures) ∙ ap (sentNoted (here k)) (c .before .before .before .before .before .before .before .before .before .reply .ensures)))
+
+sub-reject : tie.Need-sub-reject Inv-loop μ-loop
+sub-reject c = search needs
+
+part-reject-start : tie.Need-part-reject-start Inv-loop μ-loop
+part-reject-start c = search needs
+
+part-reject-end : tie.Need-part-reject-end Inv-loop μ-loop
+part-reject-end c = search needs
+
+reject-requires : tie.Need-reject-requires Inv-loop μ-loop
+reject-requires c κs = search needs
+
+sent-code-requires-2 : tie.Need-sent-code-requires-2 Inv-loop μ-loop
+sent-code-requires-2 c κs = search needs
+
+put-call-requires-4 : tie.Need-put-call-requires-4 Inv-loop μ-loop
+put-call-requires-4 c κs = search needs
+
+loop-less-5 : tie.Need-loop-less-5 Inv-loop μ-loop
+loop-less-5 c = less (c .before .before .before .before .before .before .before .before .before .before .before .before .before)
+
+loop-again-5 : tie.Need-loop-again-5 Inv-loop μ-loop
+loop-again-5 c = let k = c .before .before .before .before .before .before .before .before .before .before .before .before .before in (there k, search needs, search needs, turned k 4 _ (c .before .before .before .before .before .before .before .before .before .before .before .before .match .keys5) (answered-is _ 0 (c .before .before .before .before .before .before .before .before .before .reject .result .written) (c .before .before .before .before .sent-code2 .ensures) (c .before .before .put-call4 .ensures) ∙ ap (sentNoted (here k)) (c .before .before .before .before .before .before .before .before .before .reject .ensures)))
+
+sub-answer : tie.Need-sub-answer Inv-loop μ-loop
+sub-answer c = search needs
+
+part-answer-start : tie.Need-part-answer-start Inv-loop μ-loop
+part-answer-start c = search needs
+
+part-answer-end : tie.Need-part-answer-end Inv-loop μ-loop
+part-answer-end c = search needs
+
+slice-aggregate-answer : tie.Need-slice-aggregate-answer Inv-loop μ-loop
+slice-aggregate-answer c = search needs
+
+answer-requires : tie.Need-answer-requires Inv-loop μ-loop
+answer-requires c κs = search needs
+
+sent-code-requires-3 : tie.Need-sent-code-requires-3 Inv-loop μ-loop
+sent-code-requires-3 c κs = search needs
+
+put-call-requires-5 : tie.Need-put-call-requires-5 Inv-loop μ-loop
+put-call-requires-5 c κs = search needs
+
+loop-less-6 : tie.Need-loop-less-6 Inv-loop μ-loop
+loop-less-6 c = less (c .before .before .before .before .before .before .before .before .before .before .before .before .before .before)
+
+loop-again-6 : tie.Need-loop-again-6 Inv-loop μ-loop
+loop-again-6 c = let k = c .before .before .before .before .before .before .before .before .before .before .before .before .before .before in (there k, search needs, search needs, turned k 5 _ (c .before .before .before .before .before .before .before .before .before .before .before .before .before .match .keys6) (answered-is _ 0 (c .before .before .before .before .before .before .before .before .before .answer .result .written) (c .before .before .before .before .sent-code3 .ensures) (c .before .before .put-call5 .ensures) ∙ ap (sentNoted (here k)) (c .before .before .before .before .before .before .before .before .before .answer .ensures)))
+
+slice-aggregate-answer-2 : tie.Need-slice-aggregate-answer-2 Inv-loop μ-loop
+slice-aggregate-answer-2 c = search needs
+
+sub-answer-2 : tie.Need-sub-answer-2 Inv-loop μ-loop
+sub-answer-2 c = search needs
+
+part-answer-start-2 : tie.Need-part-answer-start-2 Inv-loop μ-loop
+part-answer-start-2 c = search needs
+
+part-answer-end-2 : tie.Need-part-answer-end-2 Inv-loop μ-loop
+part-answer-end-2 c = search needs
+
+answer-requires-2 : tie.Need-answer-requires-2 Inv-loop μ-loop
+answer-requires-2 c κs = search needs
+
+sent-code-requires-4 : tie.Need-sent-code-requires-4 Inv-loop μ-loop
+sent-code-requires-4 c κs = search needs
+
+put-call-requires-6 : tie.Need-put-call-requires-6 Inv-loop μ-loop
+put-call-requires-6 c κs = search needs
+
+loop-less-7 : tie.Need-loop-less-7 Inv-loop μ-loop
+loop-less-7 c = less (c .before .before .before .before .before .before .before .before .before .before .before .before .before .before)
+
+loop-again-7 : tie.Need-loop-again-7 Inv-loop μ-loop
+loop-again-7 c = let k = c .before .before .before .before .before .before .before .before .before .before .before .before .before .before in (there k, search needs, search needs, turned k (getD (given k) (from k) 0) _ refl (answered-is _ 0 (c .before .before .before .before .before .before .before .before .before .answer2 .result .written) (c .before .before .before .before .sent-code4 .ensures) (c .before .before .put-call6 .ensures) ∙ ap (sentNoted (here k)) (c .before .before .before .before .before .before .before .before .before .answer2 .ensures) ∙ server-rest (here k) (getD (given k) (from k) 0) (argument k) (c .before .before .before .before .before .before .before .before .before .before .before .before .before .match .rest)))
 
 same-length : tie.Need-same-length Inv-loop μ-loop
 same-length c = search needs
@@ -55,7 +247,7 @@ same-length-2 : tie.Need-same-length-2 Inv-loop μ-loop
 same-length-2 c = search needs
 
 returns : tie.Need-returns Inv-loop μ-loop
-returns c = search needs
+returns c = sym (calls-end serverCall (turn (c .before .loop .server) (c .before .loop .at) (c .before .loop .out) (c .before .loop .log)) (c .before .before .before .before .before .args .script .now) (c .before .loop .from) (c .loop-test .left)) ∙ c .before .loop .inv .3
 
 pub run-spec : {M : Type 1} → statement M
 run-spec =
@@ -68,13 +260,61 @@ run-spec =
     add-start
     argument-size-requires
     add-end
-    shared-slice-read-call
-    sub-call
-    part-call-start
-    part-call-end
-    call-requires
+    shared-slice-read-kind
+    put-state-requires
     loop-less
     loop-again
+    sub-byte-of
+    part-byte-of-start
+    part-byte-of-end
+    byte-of-requires
+    byte-requires
+    byte-code-requires
+    put-call-requires
+    loop-less-2
+    loop-again-2
+    sub-bytes
+    part-bytes-start
+    part-bytes-end
+    bytes-requires
+    byte-code-requires-2
+    put-call-requires-2
+    loop-less-3
+    loop-again-3
+    sub-reply
+    part-reply-start
+    part-reply-end
+    reply-requires
+    sent-code-requires
+    put-call-requires-3
+    loop-less-4
+    loop-again-4
+    sub-reject
+    part-reject-start
+    part-reject-end
+    reject-requires
+    sent-code-requires-2
+    put-call-requires-4
+    loop-less-5
+    loop-again-5
+    sub-answer
+    part-answer-start
+    part-answer-end
+    slice-aggregate-answer
+    answer-requires
+    sent-code-requires-3
+    put-call-requires-5
+    loop-less-6
+    loop-again-6
+    slice-aggregate-answer-2
+    sub-answer-2
+    part-answer-start-2
+    part-answer-end-2
+    answer-requires-2
+    sent-code-requires-4
+    put-call-requires-6
+    loop-less-7
+    loop-again-7
     same-length
     same-length-2
     returns)
