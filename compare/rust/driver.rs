@@ -36,25 +36,25 @@ pub mod server {
     pub const BYTE: u8 = 1;
     pub const BYTES: u8 = 2;
     pub const REPLY: u8 = 3;
-    pub const REJECT: u8 = 4;
-    /// `answer` with the argument as the identity string for ATI, and ELM327 for AT@1.
-    pub const ANSWER_ATI: u8 = 5;
     /// `answer` with ELM327 v1.5 for ATI, and the argument for AT@1.
-    pub const ANSWER_DEVICE: u8 = 6;
+    pub const ANSWER_DEVICE: u8 = 4;
+    pub const REJECT: u8 = 5;
+    /// `answer` with the argument for ATI, and ELM327 for AT@1.
+    pub const ANSWER_ATI: u8 = 6;
 }
 
 /// The kinds of calls on a client session.
 pub mod client {
     pub const STATE: u8 = 0;
-    pub const INIT: u8 = 1;
-    pub const COMMAND: u8 = 2;
-    pub const QUERY_PID: u8 = 3;
-    pub const QUERY_PIDS: u8 = 4;
-    pub const QUERY_PIDS_COUNT: u8 = 5;
-    pub const PIECE: u8 = 6;
-    pub const FAILED_READ: u8 = 7;
-    pub const FAILED_WRITE: u8 = 8;
-    pub const FINISH: u8 = 9;
+    pub const COMMAND: u8 = 1;
+    pub const QUERY_PID: u8 = 2;
+    pub const QUERY_PIDS: u8 = 3;
+    pub const PIECE: u8 = 4;
+    pub const FINISH: u8 = 5;
+    pub const INIT: u8 = 6;
+    pub const QUERY_PIDS_COUNT: u8 = 7;
+    pub const FAILED_READ: u8 = 8;
+    pub const FAILED_WRITE: u8 = 9;
     pub const REPLY: u8 = 10;
 }
 

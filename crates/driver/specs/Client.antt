@@ -69,10 +69,8 @@ pidsEntry lengths counts (p ∷ pids) = (numberBytes (lengthNumber (lengthIn len
 abbrev pub stateEntry : Client → List ℕ → List ℕ
 stateEntry c pids =
     let k = c .known in
-    (flagByte (k .framing) ∷ []) ++
-    ((supportCode (k .repeat) ∷ []) ++
-    ((supportCode (k .multi) ∷ []) ++
-    ((underCode (c .under) ∷ []) ++ (textEntry (k .last) ++ pidsEntry (k .lengths) (k .counts) pids))))
+    (flagByte (k .framing) ∷ supportCode (k .repeat) ∷ supportCode (k .multi) ∷ underCode (c .under) ∷ []) ++
+    (textEntry (k .last) ++ pidsEntry (k .lengths) (k .counts) pids)
 
 -- A turn of a client session, with the store of its replies.
 pub record Stored : Type 0 where
@@ -101,34 +99,40 @@ countGiven [] = 0
 countGiven (pid ∷ []) = 0
 countGiven (pid ∷ count ∷ s) = suc count
 
--- a call by its kind: 0 shows the state with the PIDs of the argument, 1 is `init`, 2 `command`, 3 `query_pid` with a PID and perhaps a count, 4 `query_pids` with
--- no count, 5 with a count and then the PIDs, 6 `piece`, 7 `failure` of a read, 8 of a write, 9 `finish`; 10 and more shows the reply so far
+-- the calls that are made more rarely: 6 is `init`, 7 `query_pids` with a count and then the PIDs, 8 `failure` of a read, 9 of a write; 10 shows the reply so far,
+-- and any other the state with the PIDs of the argument
+abbrev pub rareCall : Stored → ℕ → List ℕ → Stored
+rareCall t kind arg =
+    let c = t .turn .session in
+    let out = t .turn .out in
+    let room = length out in
+    cond (eqb kind 6) (startNoted t (lent (initSays room c) out))
+    (cond (eqb kind 7) (startNoted t (lent (queryPidsSays room c (drop 1 arg) (suc (getD arg 0 0))) out))
+    (cond (eqb kind 8) (pieceNoted t (lent (failureSays room c false) out) (t .store))
+    (cond (eqb kind 9) (pieceNoted t (lent (failureSays room c true) out) (t .store))
+    (cond (eqb kind 10) (shown t (textEntry (take (c .got) (t .store)))) (shown t (stateEntry c arg))))))
+
+-- a call by its kind: 1 is `command`, 2 `query_pid` with a PID and perhaps a count, 3 `query_pids` with no count, 4 `piece`, 5 `finish`
 abbrev pub clientCall : Stored → ℕ → List ℕ → Stored
 clientCall t kind arg =
     let c = t .turn .session in
     let out = t .turn .out in
     let room = length out in
-    cond (eqb kind 0) (shown t (stateEntry c arg))
-    (cond (eqb kind 1) (startNoted t (lent (initSays room c) out))
-    (cond (eqb kind 2) (startNoted t (lent (commandSays room c arg) out))
-    (cond (eqb kind 3) (startNoted t (lent (queryPidSays room c (getD arg 0 0) (countGiven arg)) out))
-    (cond (eqb kind 4) (startNoted t (lent (queryPidsSays room c arg 0) out))
-    (cond (eqb kind 5) (startNoted t (lent (queryPidsSays room c (drop 1 arg) (suc (getD arg 0 0))) out))
-    (cond (eqb kind 6) (let r = pieceLent c arg (t .store) out in pieceNoted t (r .served) (r .store))
-    (cond (eqb kind 7) (pieceNoted t (lent (failureSays room c false) out) (t .store))
-    (cond (eqb kind 8) (pieceNoted t (lent (failureSays room c true) out) (t .store))
-    (cond (eqb kind 9) (finishNoted t (lent (finishSays room c (t .store)) out))
-    (shown t (textEntry (take (c .got) (t .store)))))))))))))
+    cond (eqb kind 1) (startNoted t (lent (commandSays room c arg) out))
+    (cond (eqb kind 2) (startNoted t (lent (queryPidSays room c (getD arg 0 0) (countGiven arg)) out))
+    (cond (eqb kind 3) (startNoted t (lent (queryPidsSays room c arg 0) out))
+    (cond (eqb kind 4) (let r = pieceLent c arg (t .store) out in pieceNoted t (r .served) (r .store))
+    (cond (eqb kind 5) (finishNoted t (lent (finishSays room c (t .store)) out)) (rareCall t kind arg)))))
 
 abbrev pub clientTurn : ClientTurn → List ℕ → List ℕ → List ℕ → Stored
 clientTurn r store out log = record { turn = record { session = client (r .session); at = r .at; out = out; log = log }; store = store }
 
--- a script on a session, logged from the start of the log
-abbrev pub clientStart : Client → List ℕ → List ℕ → List ℕ → Stored
-clientStart c store out log = record { turn = record { session = c; at = 0; out = out; log = log }; store = store }
+abbrev pub clientAt : Client → ℕ → List ℕ → List ℕ → List ℕ → Stored
+clientAt c at store out log = record { turn = record { session = c; at = at; out = out; log = log }; store = store }
 
+-- a script on a session, logged from the start of the log
 abbrev pub clientRun : List ℕ → Stored → Stored
-clientRun script t = calls clientCall (clientStart (t .turn .session) (t .store) (t .turn .out) (t .turn .log)) script
+clientRun script t = calls clientCall (clientAt (t .turn .session) 0 (t .store) (t .turn .out) (t .turn .log)) script
 
 -- What a program sees of a run: what is logged, and the store.
 pub record LoggedStore : Type 0 where

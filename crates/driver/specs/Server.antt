@@ -6,7 +6,6 @@ use lib.Dec.{eqb}
 use lib.ListN.{length, getD}
 use Rattle.wire.specs.Answer.{Answer, result, refused}
 use Rattle.wire.specs.Text.{ascii}
-use Rattle.client_state.specs.Settings.{Settings}
 use Rattle.server_session.specs.declared.Phase.{Phase}
 use Rattle.server_session.specs.declared.Phase.the-variants as phase
 use Rattle.server_session.specs.Session.{Session, session, Served, lent}
@@ -33,11 +32,10 @@ phaseCode phase.AtCommand = 1
 phaseCode phase.ObdCommand = 2
 
 -- a session's state: the four settings, the phase, the last command, and the line as far as it is read or the command handed out
-abbrev pub settingsEntry : Settings → List ℕ
-settingsEntry s = flagByte (s .echo) ∷ flagByte (s .linefeeds) ∷ flagByte (s .spaces) ∷ flagByte (s .headers) ∷ []
-
 abbrev pub stateEntry : Session → List ℕ
-stateEntry s = settingsEntry (s .state) ++ ((phaseCode (s .phase) ∷ []) ++ (textEntry (s .state .last) ++ textEntry (s .line)))
+stateEntry s =
+    (flagByte (s .state .echo) ∷ flagByte (s .state .linefeeds) ∷ flagByte (s .state .spaces) ∷ flagByte (s .state .headers) ∷ phaseCode (s .phase) ∷ []) ++
+    (textEntry (s .state .last) ++ textEntry (s .line))
 
 -- a call as the host sees it is noted
 abbrev pub byteNoted : Turn Session → Served Phase → Turn Session
@@ -49,26 +47,30 @@ bytesNoted t r = answered (t .at) (t .log) (byteCode (r .answer)) (r .taken) (r 
 abbrev pub sentNoted : Turn Session → Served (Unit {0}) → Turn Session
 sentNoted t r = answered (t .at) (t .log) (sentCode (r .answer)) 0 (r .written) (r .next) (r .out)
 
--- a call by its kind: 0 shows the state, 1 is `byte` with the argument's first byte, 2 `bytes`, 3 `reply`, 4 `reject`, 5 `answer` with the argument as the identity
--- string for ATI, 6 and more `answer` with it as the one for AT@1
+-- the calls that are made more rarely: 5 is `reject`, 6 `answer` with the argument as the identity string for ATI; any other shows the state
+abbrev pub rareCall : Turn Session → ℕ → List ℕ → Turn Session
+rareCall t kind arg =
+    let s = t .session in
+    let out = t .out in
+    cond (eqb kind 5) (sentNoted t (lent (rejectSays (length out) s arg) out))
+    (cond (eqb kind 6) (sentNoted t (lent (answerSays (length out) s arg (ascii "ELM327")) out)) (noted s (t .at) out (t .log) (stateEntry s)))
+
+-- a call by its kind: 1 is `byte` with the argument's first byte, 2 `bytes`, 3 `reply`, 4 `answer` with the argument as the identity string for AT@1
 abbrev pub serverCall : Turn Session → ℕ → List ℕ → Turn Session
 serverCall t kind arg =
     let s = t .session in
     let out = t .out in
-    cond (eqb kind 0) (noted s (t .at) out (t .log) (stateEntry s))
-    (cond (eqb kind 1) (byteNoted t (lent (byteSays (length out) s (getD arg 0 0)) out))
+    cond (eqb kind 1) (byteNoted t (lent (byteSays (length out) s (getD arg 0 0)) out))
     (cond (eqb kind 2) (bytesNoted t (lentBytes (bytesSay (length out) s arg) out))
     (cond (eqb kind 3) (sentNoted t (lent (replySays (length out) s arg) out))
-    (cond (eqb kind 4) (sentNoted t (lent (rejectSays (length out) s arg) out))
-    (cond (eqb kind 5) (sentNoted t (lent (answerSays (length out) s arg (ascii "ELM327")) out))
-    (sentNoted t (lent (answerSays (length out) s (ascii "ELM327 v1.5") arg) out)))))))
+    (cond (eqb kind 4) (sentNoted t (lent (answerSays (length out) s (ascii "ELM327 v1.5") arg) out)) (rareCall t kind arg))))
 
 abbrev pub serverTurn : ServerTurn → List ℕ → List ℕ → Turn Session
 serverTurn r out log = record { session = session (r .session); at = r .at; out = out; log = log }
 
--- a script on a session, logged from the start of the log
-abbrev pub serverStart : Session → List ℕ → List ℕ → Turn Session
-serverStart s out log = record { session = s; at = 0; out = out; log = log }
+abbrev pub serverAt : Session → ℕ → List ℕ → List ℕ → Turn Session
+serverAt s at out log = record { session = s; at = at; out = out; log = log }
 
+-- a script on a session, logged from the start of the log
 abbrev pub serverRun : List ℕ → Turn Session → Turn Session
-serverRun script t = calls serverCall (serverStart (t .session) (t .out) (t .log)) script
+serverRun script t = calls serverCall (serverAt (t .session) 0 (t .out) (t .log)) script

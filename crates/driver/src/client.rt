@@ -22,7 +22,7 @@ ghost use Rattle.client_session.specs.Piece.{pieceAnswer};
 ghost use Rattle.client_session.specs.Finish.{finishAnswer};
 ghost use Rattle.driver.specs.Log.{textEntry};
 ghost use Rattle.driver.specs.Script.{calls};
-ghost use Rattle.driver.specs.Client.{startCode, pieceCode, finishCode, finishCount, supportCode, underCode, lengthNumber, pidsEntry, stateEntry, countGiven, clientCall, clientTurn, clientStart};
+ghost use Rattle.driver.specs.Client.{startCode, pieceCode, finishCode, finishCount, supportCode, underCode, lengthNumber, pidsEntry, stateEntry, countGiven, rareCall, clientCall, clientTurn, clientAt};
 
 // The codes of answers: a number of document 01 as itself, and a result as 64 or more.
 fn start_code(answer: StartAnswer) -> u8
@@ -172,10 +172,13 @@ fn put_state(session: ClientSession, arg: &[u8], log: &mut [u8], at: usize) -> u
 {
     let server = session.server;
     let under = session.under;
-    let at = wire::put_byte(log, at, crate::flag(server.framing()));
-    let at = wire::put_byte(log, at, support_code(server.repeat()));
-    let at = wire::put_byte(log, at, support_code(server.multi_pid()));
-    let at = wire::put_byte(log, at, under_code(under));
+    let first = [
+        crate::flag(server.framing()),
+        support_code(server.repeat()),
+        support_code(server.multi_pid()),
+        under_code(under),
+    ];
+    let at = wire::put(log, at, &first);
     let at = put_last(session, log, at);
     put_pids(server, arg, log, at)
 }
@@ -188,6 +191,67 @@ fn put_reply(session: ClientSession, store: &[u8], log: &mut [u8], at: usize) ->
     crate::put_text(log, at, &store[..size])
 }
 
+// A call that is made more rarely.
+fn rare(
+    session: ClientSession,
+    kind: u8,
+    arg: &[u8],
+    store: &[u8],
+    out: &mut [u8],
+    log: &mut [u8],
+    at: usize,
+) -> ClientTurn
+    ensures { λ r. ⌜ clientTurn r (now (store .entry)) (now (out .exit)) (now (log .exit)) ≡ rareCall (clientAt (client session) at (now (store .entry)) (now (out .entry)) (now (log .entry))) kind (now (arg .entry)) ⌝ }
+{
+    match kind {
+        6 => {
+            let step = session.init(out);
+            let answer = step.answer;
+            let next = step.session;
+            ClientTurn {
+                session: next,
+                at: crate::put_call(log, at, start_code(answer), 0, out, step.written),
+            }
+        }
+        7 => {
+            let count = EcuCount::Given(crate::byte_of(arg, 0));
+            let step = session.query_pids(after_first(arg), count, out);
+            let answer = step.answer;
+            let next = step.session;
+            ClientTurn {
+                session: next,
+                at: crate::put_call(log, at, start_code(answer), 0, out, step.written),
+            }
+        }
+        8 => {
+            let step = session.failure(Failure::Read, out);
+            let answer = step.answer;
+            let next = step.session;
+            ClientTurn {
+                session: next,
+                at: crate::put_call(log, at, piece_code(answer), 0, out, step.written),
+            }
+        }
+        9 => {
+            let step = session.failure(Failure::Write, out);
+            let answer = step.answer;
+            let next = step.session;
+            ClientTurn {
+                session: next,
+                at: crate::put_call(log, at, piece_code(answer), 0, out, step.written),
+            }
+        }
+        10 => ClientTurn {
+            session,
+            at: put_reply(session, store, log, at),
+        },
+        _ => ClientTurn {
+            session,
+            at: put_state(session, arg, log, at),
+        },
+    }
+}
+
 // The calls of a script, one after the other.
 pub fn run(
     session: ClientSession,
@@ -196,7 +260,7 @@ pub fn run(
     out: &mut [u8],
     log: &mut [u8],
 ) -> ClientTurn
-    ensures { λ r. ⌜ clientTurn r (now (store .exit)) (now (out .exit)) (now (log .exit)) ≡ calls clientCall (clientStart (client session) (now (store .entry)) (now (out .entry)) (now (log .entry))) (now (script .entry)) ⌝ }
+    ensures { λ r. ⌜ clientTurn r (now (store .exit)) (now (out .exit)) (now (log .exit)) ≡ calls clientCall (clientAt (client session) 0 (now (store .entry)) (now (out .entry)) (now (log .entry))) (now (script .entry)) ⌝ }
 {
     let mut session = session;
     let mut from: usize = 0;
@@ -207,60 +271,32 @@ pub fn run(
         let kind = script[from];
         from = end;
         match kind {
-            0 => {
-                at = put_state(session, &script[start..end], log, at);
-            }
             1 => {
-                let step = session.init(out);
-                let answer = step.answer;
-                session = step.session;
-                at = crate::put_call(log, at, start_code(answer), 0, out, step.written);
-            }
-            2 => {
                 let step = session.command(&script[start..end], out);
                 let answer = step.answer;
                 session = step.session;
                 at = crate::put_call(log, at, start_code(answer), 0, out, step.written);
             }
-            3 => {
+            2 => {
                 let count = count_given(&script[start..end]);
                 let step = session.query_pid(crate::byte_of(&script[start..end], 0), count, out);
                 let answer = step.answer;
                 session = step.session;
                 at = crate::put_call(log, at, start_code(answer), 0, out, step.written);
             }
-            4 => {
+            3 => {
                 let step = session.query_pids(&script[start..end], EcuCount::Any, out);
                 let answer = step.answer;
                 session = step.session;
                 at = crate::put_call(log, at, start_code(answer), 0, out, step.written);
             }
-            5 => {
-                let count = EcuCount::Given(crate::byte_of(&script[start..end], 0));
-                let step = session.query_pids(after_first(&script[start..end]), count, out);
-                let answer = step.answer;
-                session = step.session;
-                at = crate::put_call(log, at, start_code(answer), 0, out, step.written);
-            }
-            6 => {
+            4 => {
                 let step = session.piece(&script[start..end], store, out);
                 let answer = step.answer;
                 session = step.session;
                 at = crate::put_call(log, at, piece_code(answer), 0, out, step.written);
             }
-            7 => {
-                let step = session.failure(Failure::Read, out);
-                let answer = step.answer;
-                session = step.session;
-                at = crate::put_call(log, at, piece_code(answer), 0, out, step.written);
-            }
-            8 => {
-                let step = session.failure(Failure::Write, out);
-                let answer = step.answer;
-                session = step.session;
-                at = crate::put_call(log, at, piece_code(answer), 0, out, step.written);
-            }
-            9 => {
+            5 => {
                 let step = session.finish(store, out);
                 let answer = step.answer;
                 session = step.session;
@@ -274,7 +310,9 @@ pub fn run(
                 );
             }
             _ => {
-                at = put_reply(session, store, log, at);
+                let turn = rare(session, kind, &script[start..end], store, out, log, at);
+                session = turn.session;
+                at = turn.at;
             }
         }
     }

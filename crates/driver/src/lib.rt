@@ -13,8 +13,8 @@ ghost use Rattle.server_session.specs.Session.{freshSession};
 ghost use Rattle.client_session.specs.Session.{freshClient};
 ghost use Rattle.driver.specs.Log.{numberBytes, textEntry, callEntry, flagByte, loggedOf, loggedAs};
 ghost use Rattle.driver.specs.Script.{argumentLength, rounds};
-ghost use Rattle.driver.specs.Server.{serverStart, serverRun};
-ghost use Rattle.driver.specs.Client.{storedOf, storedAs, clientStart, clientRun};
+ghost use Rattle.driver.specs.Server.{serverAt, serverRun};
+ghost use Rattle.driver.specs.Client.{storedOf, storedAs, clientAt, clientRun};
 
 // A session after some calls of a script, and the position in the log after their entries.
 struct ServerTurn {
@@ -95,7 +95,7 @@ pub extern "C" fn driver_server(
     out: &mut [u8],
     log: &mut [u8],
 ) -> usize
-    ensures { λ r. ⌜ loggedAs r (now (out .exit)) (now (log .exit)) ≡ loggedOf (rounds (serverRun (now (again .entry))) times (serverRun (now (script .entry)) (serverStart freshSession (now (out .entry)) (now (log .entry))))) ⌝ }
+    ensures { λ r. ⌜ loggedAs r (now (out .exit)) (now (log .exit)) ≡ loggedOf (rounds (serverRun (now (again .entry))) times (serverRun (now (script .entry)) (serverAt freshSession 0 (now (out .entry)) (now (log .entry))))) ⌝ }
 {
     let mut turn = server::run(ServerSession::new(), script, out, log);
     let mut round: usize = 0;
@@ -118,7 +118,7 @@ pub extern "C" fn driver_client(
     out: &mut [u8],
     log: &mut [u8],
 ) -> usize
-    ensures { λ r. ⌜ storedAs r (now (store .exit)) (now (out .exit)) (now (log .exit)) ≡ storedOf (rounds (clientRun (now (again .entry))) times (clientRun (now (script .entry)) (clientStart (freshClient framing repeat) (now (store .entry)) (now (out .entry)) (now (log .entry))))) ⌝ }
+    ensures { λ r. ⌜ storedAs r (now (store .exit)) (now (out .exit)) (now (log .exit)) ≡ storedOf (rounds (clientRun (now (again .entry))) times (clientRun (now (script .entry)) (clientAt (freshClient framing repeat) 0 (now (store .entry)) (now (out .entry)) (now (log .entry))))) ⌝ }
 {
     let mut turn = client::run(ClientSession::new(framing, repeat), script, store, out, log);
     let mut round: usize = 0;

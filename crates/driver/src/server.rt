@@ -13,7 +13,7 @@ ghost use Rattle.server_session.specs.Bytes.{byteAnswer};
 ghost use Rattle.server_session.specs.Replies.{serverAnswer};
 ghost use Rattle.driver.specs.Log.{textEntry};
 ghost use Rattle.driver.specs.Script.{calls};
-ghost use Rattle.driver.specs.Server.{byteCode, sentCode, phaseCode, settingsEntry, stateEntry, serverCall, serverTurn, serverStart};
+ghost use Rattle.driver.specs.Server.{byteCode, sentCode, phaseCode, stateEntry, rareCall, serverCall, serverTurn, serverAt};
 
 // The codes of answers: a number of document 01 as itself, and a result as 64 or more.
 fn byte_code(answer: ByteAnswer) -> u8
@@ -53,15 +53,6 @@ fn phase_code(phase: Phase) -> u8
     }
 }
 
-fn put_settings(state: ClientState, log: &mut [u8], at: usize) -> usize
-    ensures { λ r. ⌜ Put (now (log .entry)) at (settingsEntry (settings state)) r (now (log .exit)) ⌝ }
-{
-    let at = wire::put_byte(log, at, crate::flag(state.echo_enabled));
-    let at = wire::put_byte(log, at, crate::flag(state.linefeeds_enabled));
-    let at = wire::put_byte(log, at, crate::flag(state.spaces_enabled));
-    wire::put_byte(log, at, crate::flag(state.headers_enabled))
-}
-
 fn put_last(state: ClientState, log: &mut [u8], at: usize) -> usize
     ensures { λ r. ⌜ Put (now (log .entry)) at (textEntry (settings state .last)) r (now (log .exit)) ⌝ }
 {
@@ -84,15 +75,58 @@ fn put_state(server: ServerSession, log: &mut [u8], at: usize) -> usize
 {
     let state = server.state;
     let phase = server.phase;
-    let at = put_settings(state, log, at);
-    let at = wire::put_byte(log, at, phase_code(phase));
+    let first = [
+        crate::flag(state.echo_enabled),
+        crate::flag(state.linefeeds_enabled),
+        crate::flag(state.spaces_enabled),
+        crate::flag(state.headers_enabled),
+        phase_code(phase),
+    ];
+    let at = wire::put(log, at, &first);
     let at = put_last(state, log, at);
     put_line(server, log, at)
 }
 
+// A call that is made more rarely.
+fn rare(
+    server: ServerSession,
+    kind: u8,
+    arg: &[u8],
+    out: &mut [u8],
+    log: &mut [u8],
+    at: usize,
+) -> ServerTurn
+    ensures { λ r. ⌜ serverTurn r (now (out .exit)) (now (log .exit)) ≡ rareCall (serverAt (session server) at (now (out .entry)) (now (log .entry))) kind (now (arg .entry)) ⌝ }
+{
+    match kind {
+        5 => {
+            let step = server.reject(arg, out);
+            let answer = step.answer;
+            let next = step.session;
+            ServerTurn {
+                session: next,
+                at: crate::put_call(log, at, sent_code(answer), 0, out, step.written),
+            }
+        }
+        6 => {
+            let step = server.answer(arg, b"ELM327", out);
+            let answer = step.answer;
+            let next = step.session;
+            ServerTurn {
+                session: next,
+                at: crate::put_call(log, at, sent_code(answer), 0, out, step.written),
+            }
+        }
+        _ => ServerTurn {
+            session: server,
+            at: put_state(server, log, at),
+        },
+    }
+}
+
 // The calls of a script, one after the other.
 pub fn run(server: ServerSession, script: &[u8], out: &mut [u8], log: &mut [u8]) -> ServerTurn
-    ensures { λ r. ⌜ serverTurn r (now (out .exit)) (now (log .exit)) ≡ calls serverCall (serverStart (session server) (now (out .entry)) (now (log .entry))) (now (script .entry)) ⌝ }
+    ensures { λ r. ⌜ serverTurn r (now (out .exit)) (now (log .exit)) ≡ calls serverCall (serverAt (session server) 0 (now (out .entry)) (now (log .entry))) (now (script .entry)) ⌝ }
 {
     let mut server = server;
     let mut from: usize = 0;
@@ -103,9 +137,6 @@ pub fn run(server: ServerSession, script: &[u8], out: &mut [u8], log: &mut [u8])
         let kind = script[from];
         from = end;
         match kind {
-            0 => {
-                at = put_state(server, log, at);
-            }
             1 => {
                 let step = server.byte(crate::byte_of(&script[start..end], 0), out);
                 let answer = step.answer;
@@ -125,22 +156,15 @@ pub fn run(server: ServerSession, script: &[u8], out: &mut [u8], log: &mut [u8])
                 at = crate::put_call(log, at, sent_code(answer), 0, out, step.written);
             }
             4 => {
-                let step = server.reject(&script[start..end], out);
-                let answer = step.answer;
-                server = step.session;
-                at = crate::put_call(log, at, sent_code(answer), 0, out, step.written);
-            }
-            5 => {
-                let step = server.answer(&script[start..end], b"ELM327", out);
+                let step = server.answer(b"ELM327 v1.5", &script[start..end], out);
                 let answer = step.answer;
                 server = step.session;
                 at = crate::put_call(log, at, sent_code(answer), 0, out, step.written);
             }
             _ => {
-                let step = server.answer(b"ELM327 v1.5", &script[start..end], out);
-                let answer = step.answer;
-                server = step.session;
-                at = crate::put_call(log, at, sent_code(answer), 0, out, step.written);
+                let turn = rare(server, kind, &script[start..end], out, log, at);
+                server = turn.session;
+                at = turn.at;
             }
         }
     }

@@ -7,7 +7,7 @@ use lib.ListN.{length}
 use borrow.Author.Needs.{needs}
 use Rattle.client_session.specs.Session.{client}
 use Rattle.driver.specs.Script.{calls, rounds}
-use Rattle.driver.specs.Client.{clientCall, clientTurn, clientStart, clientRun, storedOf}
+use Rattle.driver.specs.Client.{clientCall, clientTurn, clientAt, clientRun, storedOf}
 use Rattle.driver.proofs.ScriptLaws.{rounds-turn, rounds-end}
 use Rattle.driver.proofs.driver_client.Statement.{statement}
 use Rattle.driver.proofs.driver_client.Tie as tie
@@ -51,7 +51,7 @@ same-length-3 : tie.Need-same-length-3 Inv-loop μ-loop
 same-length-3 c = search needs
 
 returns : tie.Need-returns Inv-loop μ-loop
-returns c = ap storedOf (sym (rounds-end (clientRun (c .before .before .before .before .before .before .before .before .before .before .before .before .before .before .before .before .before .before .args .again .now)) (c .before .before .before .before .before .before .before .before .before .before .before .before .before .before .before .before .before .before .args .times) (c .before .loop .round) (clientTurn (c .before .loop .turn) (c .before .loop .store) (c .before .loop .out) (c .before .loop .log)) (c .loop-test .left)) ∙ c .before .loop .inv .4 ∙ ap (rounds (clientRun (c .before .before .before .before .before .before .before .before .before .before .before .before .before .before .before .before .before .before .args .again .now)) (c .before .before .before .before .before .before .before .before .before .before .before .before .before .before .before .before .before .before .args .times)) (c .before .before .before .before .before .before .before .before .run .ensures ∙ ap (λ s. calls clientCall (clientStart s (c .before .before .before .before .before .before .before .before .before .before .before .before .before .before .before .before .before .before .args .store .now) (c .before .before .before .before .before .before .before .before .before .before .before .before .before .before .before .before .before .before .args .out .now) (c .before .before .before .before .before .before .before .before .before .before .before .before .before .before .before .before .before .before .args .log .now)) (c .before .before .before .before .before .before .before .before .before .before .before .before .before .before .before .before .before .before .args .script .now)) (c .before .before .before .before .before .before .before .before .before .before .before .before .new .ensures)))
+returns c = ap storedOf (sym (rounds-end (clientRun (c .before .before .before .before .before .before .before .before .before .before .before .before .before .before .before .before .before .before .args .again .now)) (c .before .before .before .before .before .before .before .before .before .before .before .before .before .before .before .before .before .before .args .times) (c .before .loop .round) (clientTurn (c .before .loop .turn) (c .before .loop .store) (c .before .loop .out) (c .before .loop .log)) (c .loop-test .left)) ∙ c .before .loop .inv .4 ∙ ap (rounds (clientRun (c .before .before .before .before .before .before .before .before .before .before .before .before .before .before .before .before .before .before .args .again .now)) (c .before .before .before .before .before .before .before .before .before .before .before .before .before .before .before .before .before .before .args .times)) (c .before .before .before .before .before .before .before .before .run .ensures ∙ ap (λ s. calls clientCall (clientAt s 0 (c .before .before .before .before .before .before .before .before .before .before .before .before .before .before .before .before .before .before .args .store .now) (c .before .before .before .before .before .before .before .before .before .before .before .before .before .before .before .before .before .before .args .out .now) (c .before .before .before .before .before .before .before .before .before .before .before .before .before .before .before .before .before .before .args .log .now)) (c .before .before .before .before .before .before .before .before .before .before .before .before .before .before .before .before .before .before .args .script .now)) (c .before .before .before .before .before .before .before .before .before .before .before .before .new .ensures)))
 
 pub driver-client-spec : {M : Type 1} → statement M
 driver-client-spec =

@@ -8,7 +8,7 @@ use borrow.Author.Needs.{needs}
 use Rattle.server_session.specs.Session.{session, freshSession}
 use Rattle.driver.specs.Log.{loggedOf}
 use Rattle.driver.specs.Script.{calls, rounds}
-use Rattle.driver.specs.Server.{serverCall, serverTurn, serverStart, serverRun}
+use Rattle.driver.specs.Server.{serverCall, serverTurn, serverAt, serverRun}
 use Rattle.driver.proofs.ScriptLaws.{rounds-turn, rounds-end}
 use Rattle.driver.proofs.driver_server.Statement.{statement}
 use Rattle.driver.proofs.driver_server.Tie as tie
@@ -49,7 +49,7 @@ same-length-2 : tie.Need-same-length-2 Inv-loop μ-loop
 same-length-2 c = search needs
 
 returns : tie.Need-returns Inv-loop μ-loop
-returns c = ap loggedOf (sym (rounds-end (serverRun (c .before .before .before .before .before .before .before .before .before .before .before .before .before .before .args .again .now)) (c .before .before .before .before .before .before .before .before .before .before .before .before .before .before .args .times) (c .before .loop .round) (serverTurn (c .before .loop .turn) (c .before .loop .out) (c .before .loop .log)) (c .loop-test .left)) ∙ c .before .loop .inv .3 ∙ ap (rounds (serverRun (c .before .before .before .before .before .before .before .before .before .before .before .before .before .before .args .again .now)) (c .before .before .before .before .before .before .before .before .before .before .before .before .before .before .args .times)) (c .before .before .before .before .before .before .run .ensures ∙ ap (λ s. calls serverCall (serverStart s (c .before .before .before .before .before .before .before .before .before .before .before .before .before .before .args .out .now) (c .before .before .before .before .before .before .before .before .before .before .before .before .before .before .args .log .now)) (c .before .before .before .before .before .before .before .before .before .before .before .before .before .before .args .script .now)) (c .before .before .before .before .before .before .before .before .before .new .ensures)))
+returns c = ap loggedOf (sym (rounds-end (serverRun (c .before .before .before .before .before .before .before .before .before .before .before .before .before .before .args .again .now)) (c .before .before .before .before .before .before .before .before .before .before .before .before .before .before .args .times) (c .before .loop .round) (serverTurn (c .before .loop .turn) (c .before .loop .out) (c .before .loop .log)) (c .loop-test .left)) ∙ c .before .loop .inv .3 ∙ ap (rounds (serverRun (c .before .before .before .before .before .before .before .before .before .before .before .before .before .before .args .again .now)) (c .before .before .before .before .before .before .before .before .before .before .before .before .before .before .args .times)) (c .before .before .before .before .before .before .run .ensures ∙ ap (λ s. calls serverCall (serverAt s 0 (c .before .before .before .before .before .before .before .before .before .before .before .before .before .before .args .out .now) (c .before .before .before .before .before .before .before .before .before .before .before .before .before .before .args .log .now)) (c .before .before .before .before .before .before .before .before .before .before .before .before .before .before .args .script .now)) (c .before .before .before .before .before .before .before .before .before .new .ensures)))
 
 pub driver-server-spec : {M : Type 1} → statement M
 driver-server-spec =

@@ -1,10 +1,5 @@
 -- `driver::client::put_state` meets its contract.
-use Rattle.driver.proofs.LogLaws.{put-as}
-use Rattle.driver.specs.Client.{supportCode}
-use Rattle.driver.specs.Log.{flagByte}
 use Rattle.wire.proofs.PutLaws.{put-then}
-use mathlib.Core.List.{[], _∷_}
-use mathlib.Core.Path.{ap, _∙_}
 use borrow.Author.Needs.{needs}
 use Rattle.driver.proofs.client.put_state.Statement.{statement}
 use Rattle.driver.proofs.client.put_state.Tie as tie
@@ -15,17 +10,11 @@ framing-requires c κs = search needs
 flag-requires : tie.Need-flag-requires
 flag-requires c κs = search needs
 
-put-byte-requires : tie.Need-put-byte-requires
-put-byte-requires c κs = search needs
-
 repeat-requires : tie.Need-repeat-requires
 repeat-requires c κs = search needs
 
 support-code-requires : tie.Need-support-code-requires
 support-code-requires c κs = search needs
-
-put-byte-requires-2 : tie.Need-put-byte-requires-2
-put-byte-requires-2 c κs = search needs
 
 multi-pid-requires : tie.Need-multi-pid-requires
 multi-pid-requires c κs = search needs
@@ -33,14 +22,14 @@ multi-pid-requires c κs = search needs
 support-code-requires-2 : tie.Need-support-code-requires-2
 support-code-requires-2 c κs = search needs
 
-put-byte-requires-3 : tie.Need-put-byte-requires-3
-put-byte-requires-3 c κs = search needs
-
 under-code-requires : tie.Need-under-code-requires
 under-code-requires c κs = search needs
 
-put-byte-requires-4 : tie.Need-put-byte-requires-4
-put-byte-requires-4 c κs = search needs
+slice-aggregate-put : tie.Need-slice-aggregate-put
+slice-aggregate-put c = search needs
+
+put-requires : tie.Need-put-requires
+put-requires c κs = search needs
 
 put-last-requires : tie.Need-put-last-requires
 put-last-requires c κs = search needs
@@ -52,7 +41,7 @@ same-length : tie.Need-same-length
 same-length c = search needs
 
 returns : tie.Need-returns
-returns c = put-then (put-as (ap (λ b. b ∷ []) (c .before .before .before .before .before .before .before .before .before .before .before .before .before .before .before .before .before .before .before .before .before .before .before .before .before .before .before .before .flag .ensures ∙ ap flagByte (c .before .before .before .before .before .before .before .before .before .before .before .before .before .before .before .before .before .before .before .before .before .before .before .before .before .before .before .before .before .framing .ensures))) (c .before .before .before .before .before .before .before .before .before .before .before .before .before .before .before .before .before .before .before .before .before .before .before .before .before .before .before .put-byte .ensures)) (put-then (put-as (ap (λ b. b ∷ []) (c .before .before .before .before .before .before .before .before .before .before .before .before .before .before .before .before .before .before .before .before .before .before .support-code .ensures ∙ ap supportCode (c .before .before .before .before .before .before .before .before .before .before .before .before .before .before .before .before .before .before .before .before .before .before .before .repeat .ensures))) (c .before .before .before .before .before .before .before .before .before .before .before .before .before .before .before .before .before .before .before .before .before .put-byte2 .ensures)) (put-then (put-as (ap (λ b. b ∷ []) (c .before .before .before .before .before .before .before .before .before .before .before .before .before .before .before .before .support-code2 .ensures ∙ ap supportCode (c .before .before .before .before .before .before .before .before .before .before .before .before .before .before .before .before .before .multi-pid .ensures))) (c .before .before .before .before .before .before .before .before .before .before .before .before .before .before .before .put-byte3 .ensures)) (put-then (put-as (ap (λ b. b ∷ []) (c .before .before .before .before .before .before .before .before .before .before .before .under-code .ensures)) (c .before .before .before .before .before .before .before .before .before .before .put-byte4 .ensures)) (put-then (c .before .before .before .before .before .before .put-last .ensures) (c .before .before .put-pids .ensures)))))
+returns c = rw (← c .before .before .before .before .before .before .before .before .before .before .before .before .before .before .before .before .before .before .before .framing .ensures, ← c .before .before .before .before .before .before .before .before .before .before .before .before .before .before .before .before .before .before .flag .ensures, ← c .before .before .before .before .before .before .before .before .before .before .before .before .before .before .before .before .before .repeat .ensures, ← c .before .before .before .before .before .before .before .before .before .before .before .before .before .before .before .before .support-code .ensures, ← c .before .before .before .before .before .before .before .before .before .before .before .before .before .before .before .multi-pid .ensures, ← c .before .before .before .before .before .before .before .before .before .before .before .before .before .before .support-code2 .ensures, ← c .before .before .before .before .before .before .before .before .before .before .before .before .before .under-code .ensures) (put-then (c .before .before .before .before .before .before .before .before .before .before .put .ensures) (put-then (c .before .before .before .before .before .before .put-last .ensures) (c .before .before .put-pids .ensures)))
 
 pub put-state-spec : {M : Type 1} → statement M
 put-state-spec =
@@ -60,15 +49,13 @@ put-state-spec =
     (tie.spec
     framing-requires
     flag-requires
-    put-byte-requires
     repeat-requires
     support-code-requires
-    put-byte-requires-2
     multi-pid-requires
     support-code-requires-2
-    put-byte-requires-3
     under-code-requires
-    put-byte-requires-4
+    slice-aggregate-put
+    put-requires
     put-last-requires
     put-pids-requires
     same-length

@@ -4,14 +4,26 @@ use borrow.Author.Needs.{needs}
 use Rattle.driver.proofs.server.put_state.Statement.{statement}
 use Rattle.driver.proofs.server.put_state.Tie as tie
 
-put-settings-requires : tie.Need-put-settings-requires
-put-settings-requires c κs = search needs
+flag-requires : tie.Need-flag-requires
+flag-requires c κs = search needs
+
+flag-requires-2 : tie.Need-flag-requires-2
+flag-requires-2 c κs = search needs
+
+flag-requires-3 : tie.Need-flag-requires-3
+flag-requires-3 c κs = search needs
+
+flag-requires-4 : tie.Need-flag-requires-4
+flag-requires-4 c κs = search needs
 
 phase-code-requires : tie.Need-phase-code-requires
 phase-code-requires c κs = search needs
 
-put-byte-requires : tie.Need-put-byte-requires
-put-byte-requires c κs = search needs
+slice-aggregate-put : tie.Need-slice-aggregate-put
+slice-aggregate-put c = search needs
+
+put-requires : tie.Need-put-requires
+put-requires c κs = search needs
 
 put-last-requires : tie.Need-put-last-requires
 put-last-requires c κs = search needs
@@ -23,15 +35,19 @@ same-length : tie.Need-same-length
 same-length c = search needs
 
 returns : tie.Need-returns
-returns c = rw (← c .before .before .before .before .before .before .before .before .before .before .before .phase-code .ensures) (put-then (c .before .before .before .before .before .before .before .before .before .before .before .before .before .before .before .put-settings .ensures) (put-then (c .before .before .before .before .before .before .before .before .before .before .put-byte .ensures) (put-then (c .before .before .before .before .before .before .put-last .ensures) (c .before .before .put-line .ensures))))
+returns c = rw (← c .before .before .before .before .before .before .before .before .before .before .before .before .before .before .before .before .before .flag .ensures, ← c .before .before .before .before .before .before .before .before .before .before .before .before .before .before .before .before .flag2 .ensures, ← c .before .before .before .before .before .before .before .before .before .before .before .before .before .before .before .flag3 .ensures, ← c .before .before .before .before .before .before .before .before .before .before .before .before .before .before .flag4 .ensures, ← c .before .before .before .before .before .before .before .before .before .before .before .before .before .phase-code .ensures) (put-then (c .before .before .before .before .before .before .before .before .before .before .put .ensures) (put-then (c .before .before .before .before .before .before .put-last .ensures) (c .before .before .put-line .ensures)))
 
 pub put-state-spec : {M : Type 1} → statement M
 put-state-spec =
     tie.close
     (tie.spec
-    put-settings-requires
+    flag-requires
+    flag-requires-2
+    flag-requires-3
+    flag-requires-4
     phase-code-requires
-    put-byte-requires
+    slice-aggregate-put
+    put-requires
     put-last-requires
     put-line-requires
     same-length

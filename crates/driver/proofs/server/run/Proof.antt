@@ -5,28 +5,24 @@ use Prim.Native.Nat.{ℕ, _+_, _-_, _≤_, _<_}
 use native.Mathlib.Omega.{arith}
 use lib.ListN.{length, take, drop, getD}
 use borrow.Author.Needs.{needs}
-use Rattle.server_session.specs.declared.ServerSession.{ServerSession}
 use Rattle.server_session.specs.Session.{Session, session, lent}
 use Rattle.server_session.specs.Bytes.{byteSays}
 use Rattle.driver.specs.Log.{Turn}
 use Rattle.driver.specs.Script.{calls}
-use Rattle.driver.specs.Server.{serverCall, byteNoted, bytesNoted, sentNoted}
-use Rattle.driver.proofs.LogLaws.{noted-is, answered-is}
+use Rattle.driver.specs.Server.{serverCall, serverAt, byteNoted, bytesNoted, sentNoted}
+use Rattle.driver.proofs.LogLaws.{answered-is}
 use Rattle.driver.proofs.ScriptLaws.{calls-turn, calls-end}
-use Rattle.driver.proofs.CallLaws.{server-rest}
+use Rattle.driver.proofs.CallLaws.{server-rare}
 use Rattle.driver.proofs.server.run.Statement.{statement}
 use Rattle.driver.proofs.server.run.Tie as tie
 
-abbrev turn : ServerSession → ℕ → List ℕ → List ℕ → Turn Session
-turn s at out log = record { session = session s; at = at; out = out; log = log }
-
 abbrev Inv-loop : tie.InvT-loop
-Inv-loop script out₀ log₀ server₀ from₀ at₀ t23 t24 out log server from at =
+Inv-loop script out₀ log₀ server₀ from₀ at₀ t20 out log server from at =
     (from ≤ length script) × (length out ≡ length out₀) × (length log ≡ length log₀) ×
-    (calls serverCall (turn server at out log) (drop from script) ≡ calls serverCall (turn server₀ 0 out₀ log₀) script)
+    (calls serverCall (serverAt (session server) at out log) (drop from script) ≡ calls serverCall (serverAt (session server₀) 0 out₀ log₀) script)
 
 abbrev μ-loop : tie.MeasureT-loop
-μ-loop script out₀ log₀ server₀ from₀ at₀ t23 t24 out log server from at = length script - from
+μ-loop script out₀ log₀ server₀ from₀ at₀ t20 out log server from at = length script - from
 
 -- At a call: the turn so far, the call's argument, and what follows from what the call does.
 module _ (k : tie.After-shared-slice-known2 Inv-loop μ-loop) where
@@ -43,7 +39,7 @@ module _ (k : tie.After-shared-slice-known2 Inv-loop μ-loop) where
   size = k .before .argument-size .result
 
   abbrev here : Turn Session
-  here = turn (head .loop .server) (head .loop .at) (head .loop .out) (head .loop .log)
+  here = serverAt (session (head .loop .server)) (head .loop .at) (head .loop .out) (head .loop .log)
 
   abbrev argument : List ℕ
   argument = take (from + 3 + size - (from + 3)) (drop (from + 3) given)
@@ -56,7 +52,7 @@ module _ (k : tie.After-shared-slice-known2 Inv-loop μ-loop) where
 
   turned : (kind : ℕ) (u : Turn Session) → getD given from 0 ≡ kind → u ≡ serverCall here kind argument →
       calls serverCall u (drop (from + 3 + size) given) ≡
-      calls serverCall (turn (head .before .before .before .before .args .server) 0 (head .before .before .before .before .args .out .now) (head .before .before .before .before .args .log .now)) given
+      calls serverCall (serverAt (session (head .before .before .before .before .args .server)) 0 (head .before .before .before .before .args .out .now) (head .before .before .before .before .args .log .now)) given
   turned kind u e w =
       calls-turn serverCall here u given from size kind (k .before .before .loop-test .taken) (k .before .argument-size .ensures) e w ∙ head .loop .inv .3
 
@@ -77,15 +73,6 @@ add-end c = search needs
 
 shared-slice-read-kind : tie.Need-shared-slice-read-kind Inv-loop μ-loop
 shared-slice-read-kind c = search needs
-
-put-state-requires : tie.Need-put-state-requires Inv-loop μ-loop
-put-state-requires c κs = search needs
-
-loop-less : tie.Need-loop-less Inv-loop μ-loop
-loop-less c = less (c .before .before .before .before .before)
-
-loop-again : tie.Need-loop-again Inv-loop μ-loop
-loop-again c = let k = c .before .before .before .before .before in (there k, search needs, search needs, turned k 0 _ (c .before .before .before .before .match .keys1) (noted-is _ (c .before .before .put-state .ensures)))
 
 sub-byte-of : tie.Need-sub-byte-of Inv-loop μ-loop
 sub-byte-of c = search needs
@@ -108,11 +95,11 @@ byte-code-requires c κs = search needs
 put-call-requires : tie.Need-put-call-requires Inv-loop μ-loop
 put-call-requires c κs = search needs
 
-loop-less-2 : tie.Need-loop-less-2 Inv-loop μ-loop
-loop-less-2 c = less (c .before .before .before .before .before .before .before .before .before .before .before .before .before .before)
+loop-less : tie.Need-loop-less Inv-loop μ-loop
+loop-less c = less (c .before .before .before .before .before .before .before .before .before .before .before .before .before .before)
 
-loop-again-2 : tie.Need-loop-again-2 Inv-loop μ-loop
-loop-again-2 c = let k = c .before .before .before .before .before .before .before .before .before .before .before .before .before .before in (there k, search needs, search needs, turned k 1 _ (c .before .before .before .before .before .before .before .before .before .before .before .before .before .match .keys2) (answered-is _ 0 (c .before .before .before .before .before .before .before .before .before .byte .result .written) (c .before .before .before .before .byte-code .ensures) (c .before .before .put-call .ensures) ∙ ap (byteNoted (here k)) (c .before .before .before .before .before .before .before .before .before .byte .ensures) ∙ ap (λ b. byteNoted (here k) (lent (byteSays (length (here k .out)) (here k .session) b) (here k .out))) (c .before .before .before .before .before .before .before .before .before .before .before .byte-of .ensures)))
+loop-again : tie.Need-loop-again Inv-loop μ-loop
+loop-again c = let k = c .before .before .before .before .before .before .before .before .before .before .before .before .before .before in (there k, search needs, search needs, turned k 1 _ (c .before .before .before .before .before .before .before .before .before .before .before .before .before .match .keys1) (answered-is _ 0 (c .before .before .before .before .before .before .before .before .before .byte .result .written) (c .before .before .before .before .byte-code .ensures) (c .before .before .put-call .ensures) ∙ ap (byteNoted (here k)) (c .before .before .before .before .before .before .before .before .before .byte .ensures) ∙ ap (λ b. byteNoted (here k) (lent (byteSays (length (here k .out)) (here k .session) b) (here k .out))) (c .before .before .before .before .before .before .before .before .before .before .before .byte-of .ensures)))
 
 sub-bytes : tie.Need-sub-bytes Inv-loop μ-loop
 sub-bytes c = search needs
@@ -132,11 +119,11 @@ byte-code-requires-2 c κs = search needs
 put-call-requires-2 : tie.Need-put-call-requires-2 Inv-loop μ-loop
 put-call-requires-2 c κs = search needs
 
-loop-less-3 : tie.Need-loop-less-3 Inv-loop μ-loop
-loop-less-3 c = less (c .before .before .before .before .before .before .before .before .before .before .before .before .before)
+loop-less-2 : tie.Need-loop-less-2 Inv-loop μ-loop
+loop-less-2 c = less (c .before .before .before .before .before .before .before .before .before .before .before .before .before)
 
-loop-again-3 : tie.Need-loop-again-3 Inv-loop μ-loop
-loop-again-3 c = let k = c .before .before .before .before .before .before .before .before .before .before .before .before .before in (there k, search needs, search needs, turned k 2 _ (c .before .before .before .before .before .before .before .before .before .before .before .before .match .keys3) (answered-is _ (c .before .before .before .before .before .before .before .before .before .bytes .result .taken) (c .before .before .before .before .before .before .before .before .before .bytes .result .written) (c .before .before .before .before .byte-code2 .ensures) (c .before .before .put-call2 .ensures) ∙ ap (bytesNoted (here k)) (c .before .before .before .before .before .before .before .before .before .bytes .ensures)))
+loop-again-2 : tie.Need-loop-again-2 Inv-loop μ-loop
+loop-again-2 c = let k = c .before .before .before .before .before .before .before .before .before .before .before .before .before in (there k, search needs, search needs, turned k 2 _ (c .before .before .before .before .before .before .before .before .before .before .before .before .match .keys2) (answered-is _ (c .before .before .before .before .before .before .before .before .before .bytes .result .taken) (c .before .before .before .before .before .before .before .before .before .bytes .result .written) (c .before .before .before .before .byte-code2 .ensures) (c .before .before .put-call2 .ensures) ∙ ap (bytesNoted (here k)) (c .before .before .before .before .before .before .before .before .before .bytes .ensures)))
 
 sub-reply : tie.Need-sub-reply Inv-loop μ-loop
 sub-reply c = search needs
@@ -156,35 +143,14 @@ sent-code-requires c κs = search needs
 put-call-requires-3 : tie.Need-put-call-requires-3 Inv-loop μ-loop
 put-call-requires-3 c κs = search needs
 
-loop-less-4 : tie.Need-loop-less-4 Inv-loop μ-loop
-loop-less-4 c = less (c .before .before .before .before .before .before .before .before .before .before .before .before .before)
+loop-less-3 : tie.Need-loop-less-3 Inv-loop μ-loop
+loop-less-3 c = less (c .before .before .before .before .before .before .before .before .before .before .before .before .before)
 
-loop-again-4 : tie.Need-loop-again-4 Inv-loop μ-loop
-loop-again-4 c = let k = c .before .before .before .before .before .before .before .before .before .before .before .before .before in (there k, search needs, search needs, turned k 3 _ (c .before .before .before .before .before .before .before .before .before .before .before .before .match .keys4) (answered-is _ 0 (c .before .before .before .before .before .before .before .before .before .reply .result .written) (c .before .before .before .before .sent-code .ensures) (c .before .before .put-call3 .ensures) ∙ ap (sentNoted (here k)) (c .before .before .before .before .before .before .before .before .before .reply .ensures)))
+loop-again-3 : tie.Need-loop-again-3 Inv-loop μ-loop
+loop-again-3 c = let k = c .before .before .before .before .before .before .before .before .before .before .before .before .before in (there k, search needs, search needs, turned k 3 _ (c .before .before .before .before .before .before .before .before .before .before .before .before .match .keys3) (answered-is _ 0 (c .before .before .before .before .before .before .before .before .before .reply .result .written) (c .before .before .before .before .sent-code .ensures) (c .before .before .put-call3 .ensures) ∙ ap (sentNoted (here k)) (c .before .before .before .before .before .before .before .before .before .reply .ensures)))
 
-sub-reject : tie.Need-sub-reject Inv-loop μ-loop
-sub-reject c = search needs
-
-part-reject-start : tie.Need-part-reject-start Inv-loop μ-loop
-part-reject-start c = search needs
-
-part-reject-end : tie.Need-part-reject-end Inv-loop μ-loop
-part-reject-end c = search needs
-
-reject-requires : tie.Need-reject-requires Inv-loop μ-loop
-reject-requires c κs = search needs
-
-sent-code-requires-2 : tie.Need-sent-code-requires-2 Inv-loop μ-loop
-sent-code-requires-2 c κs = search needs
-
-put-call-requires-4 : tie.Need-put-call-requires-4 Inv-loop μ-loop
-put-call-requires-4 c κs = search needs
-
-loop-less-5 : tie.Need-loop-less-5 Inv-loop μ-loop
-loop-less-5 c = less (c .before .before .before .before .before .before .before .before .before .before .before .before .before)
-
-loop-again-5 : tie.Need-loop-again-5 Inv-loop μ-loop
-loop-again-5 c = let k = c .before .before .before .before .before .before .before .before .before .before .before .before .before in (there k, search needs, search needs, turned k 4 _ (c .before .before .before .before .before .before .before .before .before .before .before .before .match .keys5) (answered-is _ 0 (c .before .before .before .before .before .before .before .before .before .reject .result .written) (c .before .before .before .before .sent-code2 .ensures) (c .before .before .put-call4 .ensures) ∙ ap (sentNoted (here k)) (c .before .before .before .before .before .before .before .before .before .reject .ensures)))
+slice-aggregate-answer : tie.Need-slice-aggregate-answer Inv-loop μ-loop
+slice-aggregate-answer c = search needs
 
 sub-answer : tie.Need-sub-answer Inv-loop μ-loop
 sub-answer c = search needs
@@ -195,50 +161,38 @@ part-answer-start c = search needs
 part-answer-end : tie.Need-part-answer-end Inv-loop μ-loop
 part-answer-end c = search needs
 
-slice-aggregate-answer : tie.Need-slice-aggregate-answer Inv-loop μ-loop
-slice-aggregate-answer c = search needs
-
 answer-requires : tie.Need-answer-requires Inv-loop μ-loop
 answer-requires c κs = search needs
 
-sent-code-requires-3 : tie.Need-sent-code-requires-3 Inv-loop μ-loop
-sent-code-requires-3 c κs = search needs
+sent-code-requires-2 : tie.Need-sent-code-requires-2 Inv-loop μ-loop
+sent-code-requires-2 c κs = search needs
 
-put-call-requires-5 : tie.Need-put-call-requires-5 Inv-loop μ-loop
-put-call-requires-5 c κs = search needs
+put-call-requires-4 : tie.Need-put-call-requires-4 Inv-loop μ-loop
+put-call-requires-4 c κs = search needs
 
-loop-less-6 : tie.Need-loop-less-6 Inv-loop μ-loop
-loop-less-6 c = less (c .before .before .before .before .before .before .before .before .before .before .before .before .before .before)
+loop-less-4 : tie.Need-loop-less-4 Inv-loop μ-loop
+loop-less-4 c = less (c .before .before .before .before .before .before .before .before .before .before .before .before .before .before)
 
-loop-again-6 : tie.Need-loop-again-6 Inv-loop μ-loop
-loop-again-6 c = let k = c .before .before .before .before .before .before .before .before .before .before .before .before .before .before in (there k, search needs, search needs, turned k 5 _ (c .before .before .before .before .before .before .before .before .before .before .before .before .before .match .keys6) (answered-is _ 0 (c .before .before .before .before .before .before .before .before .before .answer .result .written) (c .before .before .before .before .sent-code3 .ensures) (c .before .before .put-call5 .ensures) ∙ ap (sentNoted (here k)) (c .before .before .before .before .before .before .before .before .before .answer .ensures)))
+loop-again-4 : tie.Need-loop-again-4 Inv-loop μ-loop
+loop-again-4 c = let k = c .before .before .before .before .before .before .before .before .before .before .before .before .before .before in (there k, search needs, search needs, turned k 4 _ (c .before .before .before .before .before .before .before .before .before .before .before .before .before .match .keys4) (answered-is _ 0 (c .before .before .before .before .before .before .before .before .before .answer .result .written) (c .before .before .before .before .sent-code2 .ensures) (c .before .before .put-call4 .ensures) ∙ ap (sentNoted (here k)) (c .before .before .before .before .before .before .before .before .before .answer .ensures)))
 
-slice-aggregate-answer-2 : tie.Need-slice-aggregate-answer-2 Inv-loop μ-loop
-slice-aggregate-answer-2 c = search needs
+sub-rare : tie.Need-sub-rare Inv-loop μ-loop
+sub-rare c = search needs
 
-sub-answer-2 : tie.Need-sub-answer-2 Inv-loop μ-loop
-sub-answer-2 c = search needs
+part-rare-start : tie.Need-part-rare-start Inv-loop μ-loop
+part-rare-start c = search needs
 
-part-answer-start-2 : tie.Need-part-answer-start-2 Inv-loop μ-loop
-part-answer-start-2 c = search needs
+part-rare-end : tie.Need-part-rare-end Inv-loop μ-loop
+part-rare-end c = search needs
 
-part-answer-end-2 : tie.Need-part-answer-end-2 Inv-loop μ-loop
-part-answer-end-2 c = search needs
+rare-requires : tie.Need-rare-requires Inv-loop μ-loop
+rare-requires c κs = search needs
 
-answer-requires-2 : tie.Need-answer-requires-2 Inv-loop μ-loop
-answer-requires-2 c κs = search needs
+loop-less-5 : tie.Need-loop-less-5 Inv-loop μ-loop
+loop-less-5 c = less (c .before .before .before .before .before .before .before .before .before .before)
 
-sent-code-requires-4 : tie.Need-sent-code-requires-4 Inv-loop μ-loop
-sent-code-requires-4 c κs = search needs
-
-put-call-requires-6 : tie.Need-put-call-requires-6 Inv-loop μ-loop
-put-call-requires-6 c κs = search needs
-
-loop-less-7 : tie.Need-loop-less-7 Inv-loop μ-loop
-loop-less-7 c = less (c .before .before .before .before .before .before .before .before .before .before .before .before .before .before)
-
-loop-again-7 : tie.Need-loop-again-7 Inv-loop μ-loop
-loop-again-7 c = let k = c .before .before .before .before .before .before .before .before .before .before .before .before .before .before in (there k, search needs, search needs, turned k (getD (given k) (from k) 0) _ refl (answered-is _ 0 (c .before .before .before .before .before .before .before .before .before .answer2 .result .written) (c .before .before .before .before .sent-code4 .ensures) (c .before .before .put-call6 .ensures) ∙ ap (sentNoted (here k)) (c .before .before .before .before .before .before .before .before .before .answer2 .ensures) ∙ server-rest (here k) (getD (given k) (from k) 0) (argument k) (c .before .before .before .before .before .before .before .before .before .before .before .before .before .match .rest)))
+loop-again-5 : tie.Need-loop-again-5 Inv-loop μ-loop
+loop-again-5 c = let k = c .before .before .before .before .before .before .before .before .before .before in (there k, search needs, search needs, turned k (getD (given k) (from k) 0) _ refl (c .before .before .before .before .before .rare .ensures ∙ server-rare (here k) (getD (given k) (from k) 0) (argument k) (c .before .before .before .before .before .before .before .before .before .match .rest)))
 
 same-length : tie.Need-same-length Inv-loop μ-loop
 same-length c = search needs
@@ -247,7 +201,7 @@ same-length-2 : tie.Need-same-length-2 Inv-loop μ-loop
 same-length-2 c = search needs
 
 returns : tie.Need-returns Inv-loop μ-loop
-returns c = sym (calls-end serverCall (turn (c .before .loop .server) (c .before .loop .at) (c .before .loop .out) (c .before .loop .log)) (c .before .before .before .before .before .args .script .now) (c .before .loop .from) (c .loop-test .left)) ∙ c .before .loop .inv .3
+returns c = sym (calls-end serverCall (serverAt (session (c .before .loop .server)) (c .before .loop .at) (c .before .loop .out) (c .before .loop .log)) (c .before .before .before .before .before .args .script .now) (c .before .loop .from) (c .loop-test .left)) ∙ c .before .loop .inv .3
 
 pub run-spec : {M : Type 1} → statement M
 run-spec =
@@ -261,9 +215,6 @@ run-spec =
     argument-size-requires
     add-end
     shared-slice-read-kind
-    put-state-requires
-    loop-less
-    loop-again
     sub-byte-of
     part-byte-of-start
     part-byte-of-end
@@ -271,50 +222,39 @@ run-spec =
     byte-requires
     byte-code-requires
     put-call-requires
-    loop-less-2
-    loop-again-2
+    loop-less
+    loop-again
     sub-bytes
     part-bytes-start
     part-bytes-end
     bytes-requires
     byte-code-requires-2
     put-call-requires-2
-    loop-less-3
-    loop-again-3
+    loop-less-2
+    loop-again-2
     sub-reply
     part-reply-start
     part-reply-end
     reply-requires
     sent-code-requires
     put-call-requires-3
-    loop-less-4
-    loop-again-4
-    sub-reject
-    part-reject-start
-    part-reject-end
-    reject-requires
-    sent-code-requires-2
-    put-call-requires-4
-    loop-less-5
-    loop-again-5
+    loop-less-3
+    loop-again-3
+    slice-aggregate-answer
     sub-answer
     part-answer-start
     part-answer-end
-    slice-aggregate-answer
     answer-requires
-    sent-code-requires-3
-    put-call-requires-5
-    loop-less-6
-    loop-again-6
-    slice-aggregate-answer-2
-    sub-answer-2
-    part-answer-start-2
-    part-answer-end-2
-    answer-requires-2
-    sent-code-requires-4
-    put-call-requires-6
-    loop-less-7
-    loop-again-7
+    sent-code-requires-2
+    put-call-requires-4
+    loop-less-4
+    loop-again-4
+    sub-rare
+    part-rare-start
+    part-rare-end
+    rare-requires
+    loop-less-5
+    loop-again-5
     same-length
     same-length-2
     returns)
