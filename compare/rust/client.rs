@@ -1,0 +1,281 @@
+//! Client sessions: the Rust's side of a case.
+use crate::driver::{client as kind, Driver, Log, Script};
+use crate::plan::{shown, Expected, Plan, Values};
+use crate::shrink::{shorter, Case};
+use crate::stream::{Arrival, Empty, Event, Stream};
+use std::collections::HashMap;
+use std::fmt::Write;
+use std::io;
+use std::time::Duration;
+use tachtalk_elm327_lib::{ClientConfig, ClientSession, FeatureSupport, ReplyLine};
+
+#[derive(Clone, PartialEq)]
+pub enum Start {
+    Init,
+    Command(Vec<u8>),
+    Pid(u8, Option<u8>),
+    Pids(Vec<u8>, Option<u8>),
+}
+
+/// A call of the Rust: what it starts, what then arrives, and after how many writes one fails.
+#[derive(Clone)]
+pub struct Call {
+    pub start: Start,
+    pub arrivals: Vec<Arrival>,
+    pub failed_write: Option<usize>,
+}
+
+#[derive(Clone)]
+pub struct ClientCase {
+    pub framing: bool,
+    pub repeat: bool,
+    pub calls: Vec<Call>,
+}
+
+/// What a call of the Rust came to.
+enum Outcome {
+    Failed,
+    Initialised,
+    Reply(Vec<u8>),
+    Values(Values),
+}
+
+pub fn config(framing: bool, repeat: bool) -> ClientConfig {
+    ClientConfig { framing, repeat, reset_wait: Duration::ZERO, timeout: Duration::ZERO }
+}
+
+fn outcome<T, L>(result: io::Result<HashMap<u8, L>>, lines: T) -> Outcome
+where
+    T: Fn(&L) -> &[ReplyLine],
+{
+    let Ok(map) = result else { return Outcome::Failed };
+    let value = |line: &ReplyLine| (line.ecu.map_or(0, |ecu| ecu + 1), line.data.to_vec());
+    Outcome::Values(map.iter().map(|(pid, found)| (*pid, lines(found).iter().map(value).collect())).collect())
+}
+
+fn call(session: &mut ClientSession<Stream>, start: &Start) -> Outcome {
+    match start {
+        Start::Init => session.init().map_or(Outcome::Failed, |()| Outcome::Initialised),
+        Start::Command(command) => session.command(command).map_or(Outcome::Failed, |reply| Outcome::Reply(reply.to_vec())),
+        Start::Pid(pid, count) => outcome(session.query_pid(*pid, *count), |lines| lines),
+        Start::Pids(pids, count) => outcome(session.query_pids(pids, *count), |lines| lines),
+    }
+}
+
+fn support(of: FeatureSupport) -> u8 {
+    match of {
+        FeatureSupport::Unknown => 0,
+        FeatureSupport::Yes => 1,
+        FeatureSupport::No => 2,
+    }
+}
+
+/// The last query, which only the `Debug` form of a session shows.
+fn last_query(session: &ClientSession<Stream>, text: &mut String) -> Vec<u8> {
+    text.clear();
+    write!(text, "{session:?}").expect("a string takes all");
+    let at = text.rfind("last_command: ").expect("the field is there") + "last_command: ".len();
+    let digits = text[at..].split(|c: char| !c.is_ascii_digit()).filter(|n| !n.is_empty());
+    digits.map(|n| n.parse().expect("a byte")).collect()
+}
+
+fn state(session: &ClientSession<Stream>, text: &mut String) -> Expected {
+    let server = session.server_state();
+    let known = |pid| {
+        let length = server.data_length(pid).map_or(256, usize::from);
+        let count = server.ecu_count(pid).map_or(0, |count| usize::from(count) + 1);
+        (length, count)
+    };
+    Expected::Client {
+        framing: server.framing(),
+        repeat: support(server.repeat()),
+        multi: support(server.multi_pid()),
+        last: last_query(session, text),
+        known: (0..=255).map(known).collect(),
+    }
+}
+
+/// What a call brought about, by the session before and after it.
+fn seen(plan: &mut Plan, start: &Start, outcome: &Outcome, events: &[Event], before: &Expected, after: &Expected) {
+    plan.seen.push(match (start, outcome) {
+        (Start::Init, Outcome::Failed) => "initialisations cut off",
+        (Start::Init, _) => "initialisations",
+        (Start::Command(_), Outcome::Failed) => "raw commands that failed",
+        (Start::Command(_), _) => "raw commands",
+        (_, Outcome::Failed) => "queries that failed",
+        (_, Outcome::Values(values)) if values.is_empty() => "queries without values",
+        _ => "queries with values",
+    });
+    let queried = matches!(start, Start::Pid(..) | Start::Pids(..));
+    if queried && events.first() == Some(&Event::Wrote(b"\r".to_vec())) {
+        let writes = events.iter().filter(|event| !matches!(event, Event::Read(_))).count();
+        plan.seen.push(if writes == 1 { "repeats" } else { "repeats refused" });
+    }
+    let Expected::Client { framing, multi, known, .. } = before else { return };
+    let Expected::Client { framing: framed, multi: decided, known: learned, .. } = after else { return };
+    if framing != framed {
+        plan.seen.push("framing changed");
+    }
+    if multi != decided {
+        plan.seen.push(if *decided == 1 { "multi-PID support confirmed" } else { "multi-PID support refused" });
+    }
+    for ((length, count), (length_after, count_after)) in known.iter().zip(learned) {
+        if length != length_after {
+            plan.seen.push("lengths learned");
+        }
+        if count != count_after {
+            plan.seen.push("counts learned");
+        }
+    }
+}
+
+/// The call of the Rattle session that starts what the Rust's call does.
+pub fn started(script: &mut Script, start: &Start) {
+    match start {
+        Start::Init => script.call(kind::INIT, &[]),
+        Start::Command(command) => script.call(kind::COMMAND, command),
+        Start::Pid(pid, None) => script.call(kind::QUERY_PID, &[*pid]),
+        Start::Pid(pid, Some(count)) => script.call(kind::QUERY_PID, &[*pid, *count]),
+        Start::Pids(pids, None) => script.call(kind::QUERY_PIDS, pids),
+        Start::Pids(pids, Some(count)) => script.call(kind::QUERY_PIDS_COUNT, &[&[*count], &pids[..]].concat()),
+    }
+}
+
+/// The answer to what happened last, by what happens next: the bytes that are sent, more that is read, or the end of the call.
+fn answer(next: Option<&Event>, sent: u8, end: u8) -> Expected {
+    let (code, sent) = match next {
+        Some(Event::Wrote(bytes) | Event::WriteFailed(bytes)) => (sent, bytes.clone()),
+        Some(Event::Read(_)) => (64, Vec::new()),
+        None => (end, Vec::new()),
+    };
+    Expected::Calls { calls: 1, code, count: 0, sent }
+}
+
+impl Case for ClientCase {
+    fn plan(&self) -> Plan {
+        let mut plan = Plan::default();
+        let stream = Stream::new(Empty::Closed);
+        let mut session = ClientSession::new(stream.clone(), config(self.framing, self.repeat));
+        let mut text = String::new();
+        let all: Vec<u8> = (0..=255).collect();
+        let mut before = state(&session, &mut text);
+        for (n, Call { start, arrivals, failed_write }) in self.calls.iter().enumerate() {
+            stream.load(arrivals, *failed_write);
+            let outcome = call(&mut session, start);
+            let events = stream.events();
+            let end = match outcome {
+                Outcome::Failed => 7,
+                Outcome::Initialised | Outcome::Reply(_) => 66,
+                Outcome::Values(_) => 67,
+            };
+            let after = state(&session, &mut text);
+            seen(&mut plan, start, &outcome, &events, &before, &after);
+            before = after.clone();
+            started(&mut plan.script, start);
+            plan.expected.push((n, answer(events.first(), 64, end)));
+            for (i, event) in events.iter().enumerate() {
+                match event {
+                    Event::Wrote(_) => continue,
+                    Event::WriteFailed(_) => plan.script.call(kind::FAILED_WRITE, &[]),
+                    Event::Read(Arrival::Piece(bytes)) => plan.script.call(kind::PIECE, bytes),
+                    Event::Read(Arrival::Failed) => plan.script.call(kind::FAILED_READ, &[]),
+                    Event::Read(Arrival::Closed) => plan.script.call(kind::PIECE, &[]),
+                }
+                plan.expected.push((n, answer(events.get(i + 1), 65, end)));
+            }
+            match outcome {
+                Outcome::Failed | Outcome::Initialised => {}
+                Outcome::Reply(reply) => {
+                    plan.script.look(kind::REPLY, &[]);
+                    plan.expected.push((n, Expected::Reply(reply)));
+                }
+                Outcome::Values(values) => {
+                    plan.script.call(kind::FINISH, &[]);
+                    plan.expected.push((n, Expected::Values { values, framed: session.server_state().framing() }));
+                }
+            }
+            plan.script.look(kind::STATE, &all);
+            plan.expected.push((n, after));
+        }
+        plan
+    }
+
+    fn run<'a>(&self, driver: &'a mut Driver, plan: &Plan) -> Log<'a> {
+        driver.client(self.framing, self.repeat, &plan.script, 0, &Script::default())
+    }
+
+    fn smaller(&self) -> Vec<Self> {
+        let mut cases = Vec::new();
+        for calls in shorter(&self.calls) {
+            cases.push(ClientCase { calls, ..*self });
+        }
+        for (n, call) in self.calls.iter().enumerate() {
+            let mut with = |call: Call| {
+                let mut case = self.clone();
+                case.calls[n] = call;
+                cases.push(case);
+            };
+            if call.failed_write.is_some() {
+                with(Call { failed_write: None, ..call.clone() });
+            }
+            for arrivals in shorter(&call.arrivals) {
+                with(Call { arrivals, ..call.clone() });
+            }
+            for (k, arrival) in call.arrivals.iter().enumerate() {
+                if let Arrival::Piece(bytes) = arrival {
+                    for bytes in shorter(bytes).into_iter().filter(|bytes| !bytes.is_empty()) {
+                        let mut call = call.clone();
+                        call.arrivals[k] = Arrival::Piece(bytes);
+                        with(call);
+                    }
+                }
+            }
+            match &call.start {
+                Start::Command(command) => {
+                    for command in shorter(command) {
+                        with(Call { start: Start::Command(command), ..call.clone() });
+                    }
+                }
+                Start::Pid(pid, Some(_)) => with(Call { start: Start::Pid(*pid, None), ..call.clone() }),
+                Start::Pids(pids, count) => {
+                    for pids in shorter(pids).into_iter().filter(|pids| !pids.is_empty()) {
+                        with(Call { start: Start::Pids(pids, *count), ..call.clone() });
+                    }
+                }
+                Start::Init | Start::Pid(_, None) => {}
+            }
+        }
+        if self.framing {
+            cases.push(ClientCase { framing: false, ..self.clone() });
+        }
+        if self.repeat {
+            cases.push(ClientCase { repeat: false, ..self.clone() });
+        }
+        cases
+    }
+
+    fn show(&self) -> String {
+        let mut text = format!("client session, framing {}, repeat {}", self.framing, self.repeat);
+        for (n, call) in self.calls.iter().enumerate() {
+            let start = match &call.start {
+                Start::Init => "init".to_string(),
+                Start::Command(command) => format!("command {}", shown(command)),
+                Start::Pid(pid, count) => format!("query_pid {pid:02X}, count {count:?}"),
+                Start::Pids(pids, count) => format!("query_pids {pids:02X?}, count {count:?}"),
+            };
+            write!(text, "\n  {n}: {start}").expect("a string takes all");
+            if let Some(k) = call.failed_write {
+                write!(text, ", write {k} fails").expect("a string takes all");
+            }
+            for arrival in &call.arrivals {
+                match arrival {
+                    Arrival::Piece(bytes) => write!(text, "\n     piece {}", shown(bytes)),
+                    Arrival::Failed => write!(text, "\n     failed read"),
+                    Arrival::Closed => write!(text, "\n     closed"),
+                }
+                .expect("a string takes all");
+            }
+        }
+        text
+    }
+}

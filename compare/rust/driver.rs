@@ -1,0 +1,189 @@
+//! The Rattle side: scripts of calls, run by the static library of the crate `driver`, and the log that it writes.
+
+extern "C" {
+    fn driver_server(
+        script: *const u8,
+        script_len: usize,
+        rounds: usize,
+        again: *const u8,
+        again_len: usize,
+        out: *mut u8,
+        out_len: usize,
+        log: *mut u8,
+        log_len: usize,
+    ) -> usize;
+
+    fn driver_client(
+        framing: bool,
+        repeat: bool,
+        script: *const u8,
+        script_len: usize,
+        rounds: usize,
+        again: *const u8,
+        again_len: usize,
+        store: *mut u8,
+        store_len: usize,
+        out: *mut u8,
+        out_len: usize,
+        log: *mut u8,
+        log_len: usize,
+    ) -> usize;
+}
+
+/// The kinds of calls on a server session.
+pub mod server {
+    pub const STATE: u8 = 0;
+    pub const BYTE: u8 = 1;
+    pub const BYTES: u8 = 2;
+    pub const REPLY: u8 = 3;
+    /// `answer` with ELM327 v1.5 for ATI, and the argument for AT@1.
+    pub const ANSWER_DEVICE: u8 = 4;
+    pub const REJECT: u8 = 5;
+    /// `answer` with the argument for ATI, and ELM327 for AT@1.
+    pub const ANSWER_ATI: u8 = 6;
+}
+
+/// The kinds of calls on a client session.
+pub mod client {
+    pub const STATE: u8 = 0;
+    pub const COMMAND: u8 = 1;
+    pub const QUERY_PID: u8 = 2;
+    pub const QUERY_PIDS: u8 = 3;
+    pub const PIECE: u8 = 4;
+    pub const FINISH: u8 = 5;
+    pub const INIT: u8 = 6;
+    pub const QUERY_PIDS_COUNT: u8 = 7;
+    pub const FAILED_READ: u8 = 8;
+    pub const FAILED_WRITE: u8 = 9;
+    pub const REPLY: u8 = 10;
+}
+
+/// A script of calls. Entries that only look at a session are no calls, and are not counted.
+#[derive(Default)]
+pub struct Script {
+    pub bytes: Vec<u8>,
+    pub calls: usize,
+}
+
+impl Script {
+    fn entry(&mut self, kind: u8, argument: &[u8]) {
+        let size = u16::try_from(argument.len()).expect("an argument of less than 65,536 bytes");
+        self.bytes.push(kind);
+        self.bytes.extend_from_slice(&size.to_le_bytes());
+        self.bytes.extend_from_slice(argument);
+    }
+
+    pub fn call(&mut self, kind: u8, argument: &[u8]) {
+        self.entry(kind, argument);
+        self.calls += 1;
+    }
+
+    pub fn look(&mut self, kind: u8, argument: &[u8]) {
+        self.entry(kind, argument);
+    }
+}
+
+/// What a call answered: its code (a number of document 01, or 64 and more for a result), a count that belongs to it, and the bytes to send.
+#[derive(Debug, PartialEq)]
+pub struct Answer<'a> {
+    pub code: u8,
+    pub count: usize,
+    pub sent: &'a [u8],
+}
+
+/// A log, read from its start.
+pub struct Log<'a> {
+    left: &'a [u8],
+}
+
+impl<'a> Log<'a> {
+    pub fn byte(&mut self) -> u8 {
+        self.bytes(1)[0]
+    }
+
+    pub fn number(&mut self) -> usize {
+        let bytes = self.bytes(2);
+        usize::from(bytes[0]) + 256 * usize::from(bytes[1])
+    }
+
+    fn bytes(&mut self, n: usize) -> &'a [u8] {
+        let (taken, left) = self.left.split_at(n);
+        self.left = left;
+        taken
+    }
+
+    pub fn text(&mut self) -> &'a [u8] {
+        let n = self.number();
+        self.bytes(n)
+    }
+
+    pub fn answer(&mut self) -> Answer<'a> {
+        Answer { code: self.byte(), count: self.number(), sent: self.text() }
+    }
+
+    pub fn is_read(&self) -> bool {
+        self.left.is_empty()
+    }
+}
+
+/// The buffers that are lent to the sessions. They keep what they held from one session to the next.
+pub struct Driver {
+    store: Vec<u8>,
+    out: Vec<u8>,
+    log: Vec<u8>,
+}
+
+impl Driver {
+    pub fn new() -> Self {
+        Driver { store: vec![0xEE; 4096], out: vec![0xEE; 65_536], log: vec![0xEE; 16 << 20] }
+    }
+
+    /// One whose log takes nothing.
+    pub fn silent() -> Self {
+        Driver { log: Vec::new(), ..Driver::new() }
+    }
+
+    /// A script on a new server session, and then another for so many rounds; the log of the last.
+    pub fn server(&mut self, script: &Script, rounds: usize, again: &Script) -> Log<'_> {
+        let (script, again) = (&script.bytes, &again.bytes);
+        // Safety: each pointer comes with the length of its buffer, and the function asks nothing more.
+        let end = unsafe {
+            driver_server(
+                script.as_ptr(),
+                script.len(),
+                rounds,
+                again.as_ptr(),
+                again.len(),
+                self.out.as_mut_ptr(),
+                self.out.len(),
+                self.log.as_mut_ptr(),
+                self.log.len(),
+            )
+        };
+        Log { left: &self.log[..end] }
+    }
+
+    /// The same on a client session.
+    pub fn client(&mut self, framing: bool, repeat: bool, script: &Script, rounds: usize, again: &Script) -> Log<'_> {
+        let (script, again) = (&script.bytes, &again.bytes);
+        // Safety: as above.
+        let end = unsafe {
+            driver_client(
+                framing,
+                repeat,
+                script.as_ptr(),
+                script.len(),
+                rounds,
+                again.as_ptr(),
+                again.len(),
+                self.store.as_mut_ptr(),
+                self.store.len(),
+                self.out.as_mut_ptr(),
+                self.out.len(),
+                self.log.as_mut_ptr(),
+                self.log.len(),
+            )
+        };
+        Log { left: &self.log[..end] }
+    }
+}

@@ -1,0 +1,254 @@
+//! Cases that go through every input of a kind: all short texts, all PIDs, every length up to its limit, failures at every point.
+use crate::client::{Call, ClientCase, Start};
+use crate::server::{Answer, Own, ServerCase};
+use crate::stream::Arrival;
+
+/// Takes the cases, one after the other.
+pub trait Take {
+    fn client(&mut self, case: ClientCase);
+    fn server(&mut self, case: ServerCase);
+}
+
+fn piece(text: &[u8]) -> Arrival {
+    Arrival::Piece(text.to_vec())
+}
+
+fn split(text: &[u8], size: usize) -> Vec<Arrival> {
+    text.chunks(size).map(piece).collect()
+}
+
+fn call(start: Start, arrivals: Vec<Arrival>) -> Call {
+    Call { start, arrivals, failed_write: None }
+}
+
+fn asked(start: Start, reply: &[u8]) -> Call {
+    call(start, split(reply, 128))
+}
+
+fn raw(command: &[u8]) -> Call {
+    asked(Start::Command(command.to_vec()), b"OK\r\r>")
+}
+
+/// A session whose calls come after a raw ATH1 or ATH0.
+fn session(framed: bool, calls: Vec<Call>) -> ClientCase {
+    let mut all = vec![raw(if framed { b"ATH1" } else { b"ATH0" })];
+    all.extend(calls);
+    ClientCase { framing: false, repeat: true, calls: all }
+}
+
+fn reader(pieces: Vec<Vec<u8>>, answers: Vec<Answer>) -> ServerCase {
+    ServerCase { own: Own::usual(), by_byte: false, pieces, answers }
+}
+
+/// All texts of at most so many of these bytes.
+fn texts(bytes: &[u8], most: usize, take: &mut impl FnMut(&[u8])) {
+    let mut text = Vec::new();
+    fn longer(bytes: &[u8], left: usize, text: &mut Vec<u8>, take: &mut impl FnMut(&[u8])) {
+        take(text);
+        if left == 0 {
+            return;
+        }
+        for byte in bytes {
+            text.push(*byte);
+            longer(bytes, left - 1, text, take);
+            text.pop();
+        }
+    }
+    longer(bytes, most, &mut text, take);
+}
+
+/// Short replies to a query of one PID and to one of two.
+fn short_replies(to: &mut impl Take) {
+    texts(b"014C+ \t\n\r>?\0Gaf", 4, &mut |text| {
+        let mut reply = text.to_vec();
+        reply.extend_from_slice(b"\r>");
+        for framed in [false, true] {
+            let one = asked(Start::Pid(0x0C, None), &reply);
+            let two = asked(Start::Pids(vec![0x0C, 0x41], None), &reply);
+            to.client(session(framed, vec![one, two]));
+        }
+    });
+}
+
+/// Every pair of bytes where a reply has a pair of digits, and some of three bytes where it has an id.
+fn digits(to: &mut impl Take) {
+    for first in 0..128 {
+        for second in 0..128 {
+            for framed in [false, true] {
+                let mut reply = if framed { b"7E803410D".to_vec() } else { b"410D".to_vec() };
+                reply.extend_from_slice(&[first, second]);
+                reply.extend_from_slice(b"\r>");
+                to.client(session(framed, vec![asked(Start::Pid(0x0D, None), &reply)]));
+            }
+        }
+    }
+    texts(b"/09:@AFG`afg+- \t\n\0>z", 3, &mut |text| {
+        let mut reply = text.to_vec();
+        reply.extend_from_slice(b"04410C1AF8\r>");
+        to.client(session(true, vec![asked(Start::Pid(0x0C, None), &reply)]));
+    });
+}
+
+/// Every PID, with two lines of each two lengths, and the query once more.
+fn every_pid(to: &mut impl Take) {
+    for pid in 0..=255 {
+        for framed in [false, true] {
+            for (a, b) in (0..7).flat_map(|a| (0..7).map(move |b| (a, b))) {
+                let line = |id: &str, n: usize| {
+                    let head = if framed { format!("{id}{:02X}", n + 2) } else { String::new() };
+                    format!("{head}41{pid:02X}{}\r", "5A".repeat(n))
+                };
+                let first = line("7E8", a) + &line("7E9", b) + "\r>";
+                let then = format!("{}\r>", line("7EA", 9));
+                let two = asked(Start::Pids(vec![pid, 0x0D], None), then.as_bytes());
+                to.client(session(framed, vec![asked(Start::Pid(pid, None), first.as_bytes()), two]));
+            }
+        }
+    }
+}
+
+/// The texts of queries: every PID, every count, every number of PIDs.
+fn queries(to: &mut impl Take) {
+    let reply = b"410C1AF8\r\r>";
+    for n in 0..=255 {
+        let counts = [None, Some(n)];
+        let pid = counts.map(|count| asked(Start::Pid(0x0C, count), reply));
+        let pids = counts.map(|count| asked(Start::Pids(vec![n, 0x0C], count), reply));
+        let own = asked(Start::Pid(n, None), reply);
+        to.client(session(false, pid.into_iter().chain(pids).chain([own]).collect()));
+    }
+    for size in 1..=6 {
+        let pids = vec![0x0C; size];
+        to.client(session(false, vec![asked(Start::Pids(pids.clone(), None), reply), asked(Start::Pids(pids, Some(255)), reply)]));
+    }
+}
+
+/// Raw commands and replies of every length around the limits, in pieces of several sizes.
+fn client_lengths(to: &mut impl Take) {
+    for size in 0..=64 {
+        to.client(session(false, vec![raw(&vec![b'A'; size])]));
+    }
+    for size in (1..=300).chain(4000..=4096) {
+        for framed in [false, true] {
+            for at in [1, 2, 127, 128] {
+                let mut reply = if framed { b"7E8064100".repeat(455) } else { b"410C1AF8\r".repeat(456) };
+                reply.truncate(size - 1);
+                reply.push(b'>');
+                to.client(session(framed, vec![call(Start::Pid(0x0C, None), split(&reply, at))]));
+            }
+        }
+    }
+    let reply = b"7E8 06 41 0C 1A F8 0D 20\r7E9 04 41 0C 1B 00\r\r>";
+    for first in 1..reply.len() {
+        for second in first..reply.len() {
+            let parts = [&reply[..first], &reply[first..second], &reply[second..]];
+            let arrivals = parts.iter().filter(|part| !part.is_empty()).map(|part| piece(part)).collect();
+            to.client(session(true, vec![call(Start::Pids(vec![0x0C, 0x0D], None), arrivals)]));
+        }
+    }
+}
+
+/// A call that is cut off at every point, in every way, between two others like it.
+fn cut_off(to: &mut impl Take, framing: bool, whole: Call) {
+    let query = || asked(Start::Pids(vec![0x0C, 0x0D], Some(1)), b"7E806410C1AF80D20\r\r>");
+    let mut take = |call: Call| {
+        let calls = vec![query(), call, query(), query()];
+        to.client(ClientCase { framing, repeat: true, calls: calls.clone() });
+        to.client(ClientCase { framing, repeat: false, calls });
+    };
+    for at in 0..=whole.arrivals.len() {
+        take(Call { arrivals: whole.arrivals[..at].to_vec(), ..whole.clone() });
+        for failure in [Arrival::Failed, Arrival::Closed] {
+            let mut arrivals = whole.arrivals.clone();
+            arrivals.insert(at, failure);
+            take(Call { arrivals, ..whole.clone() });
+        }
+    }
+    for at in 0..8 {
+        take(Call { failed_write: Some(at), ..whole.clone() });
+    }
+}
+
+fn failures(to: &mut impl Take) {
+    let ok = || split(b"OK\r\r>", 3);
+    let mut init = vec![piece(b"ATZ\r\r\rELM327 v1.5\r\r>")];
+    for _ in 0..5 {
+        init.extend(ok());
+    }
+    let refused = [split(b"?\r\r>", 2), split(b"7E806410C1AF80D20\r\r>", 9)].concat();
+    for framing in [false, true] {
+        cut_off(to, framing, call(Start::Init, init.clone()));
+        for command in [b"ATH1" as &[u8], b"ATH0", b"ATZ", b"ATI"] {
+            cut_off(to, framing, call(Start::Command(command.to_vec()), ok()));
+        }
+        for start in [Start::Pids(vec![0x0C, 0x0D], Some(1)), Start::Pids(vec![0x0C], None), Start::Pid(0x0C, None)] {
+            cut_off(to, framing, call(start.clone(), split(b"7E806410C1AF80D20\r\r>", 4)));
+            cut_off(to, framing, call(start, refused.clone()));
+        }
+    }
+}
+
+/// Commands to the server: all short lines, all short AT commands.
+fn commands(to: &mut impl Take) {
+    let mut piece = Vec::new();
+    let mut lines = 0;
+    let mut take = |start: &[u8], text: &[u8], to: &mut dyn FnMut(ServerCase)| {
+        piece.extend_from_slice(start);
+        piece.extend_from_slice(text);
+        piece.push(b'\r');
+        lines += 1;
+        if lines % 32 == 0 {
+            let answer = Answer::Lines(vec![(Some(0x7E8), vec![0x41, 0x0C, 0x1A, 0xF8])]);
+            to(reader(vec![std::mem::take(&mut piece)], vec![answer, Answer::Lines(Vec::new())]));
+        }
+    };
+    let mut to = |case| to.server(case);
+    texts(b"ABCDEFGHIJKLMNOPQRSTUVWXYZ0123456789@ ", 3, &mut |text| take(b"AT", text, &mut to));
+    texts(&(0..128).collect::<Vec<u8>>(), 2, &mut |text| take(b"", text, &mut to));
+    for _ in 0..32 {
+        take(b"ATI", b"", &mut to);
+    }
+}
+
+/// Every length of a line, of an identity string, of a rejection, of a reply's data and of a list of lines, under all settings.
+fn server_lengths(to: &mut impl Take) {
+    for size in 0..=128 {
+        for by_byte in [false, true] {
+            let mut line = vec![b'1'; size];
+            line.push(b'\r');
+            to.server(ServerCase { by_byte, ..reader(vec![line.clone(), line], vec![Answer::Lines(vec![(None, vec![0x41])])]) });
+        }
+    }
+    for size in 0..=32 {
+        for own in [Own::Ati("a".repeat(size)), Own::Device("d".repeat(size))] {
+            let pieces = vec![b"ATI\rAT@1\rATZ\rATL0\rATI\rAT@1\rATZ\r".to_vec()];
+            to.server(ServerCase { own, ..reader(pieces, Vec::new()) });
+        }
+    }
+    for settings in 0..8 {
+        let bit = |n: usize| settings >> n & 1;
+        let setup = format!("ATL{}\rATS{}\rATH{}\r", bit(0), bit(1), bit(2)).into_bytes();
+        let pieces = vec![setup, b"010C\r\r".to_vec()];
+        for size in 0..=64 {
+            to.server(reader(pieces.clone(), vec![Answer::Text("x".repeat(size))]));
+            to.server(reader(pieces.clone(), vec![Answer::Lines(vec![(Some(size as u16 * 63), vec![0x41]); size])]));
+        }
+        for size in 0..=255 {
+            let data: Vec<u8> = (0..size).map(|n| n as u8).collect();
+            to.server(reader(pieces.clone(), vec![Answer::Lines(vec![(None, data.clone()), (Some(0xFFF), data)])]));
+        }
+        let full: Vec<u8> = (0..=254).collect();
+        to.server(reader(pieces, vec![Answer::Lines(vec![(Some(0x7E8), full); 64])]));
+    }
+}
+
+pub fn every(to: &mut impl Take) {
+    queries(to);
+    client_lengths(to);
+    failures(to);
+    server_lengths(to);
+    commands(to);
+    digits(to);
+    every_pid(to);
+    short_replies(to);
+}

@@ -1,0 +1,190 @@
+//! What the Rust gave in one case, beside the script by which the Rattle session is asked for the same.
+use crate::driver::{Log, Script};
+use std::collections::BTreeMap;
+
+/// Values by PID, in reply order: ECU+1 (0 when unknown) and data.
+pub type Values = BTreeMap<u8, Vec<(u16, Vec<u8>)>>;
+
+/// What is known of a PID: its length, 256 when unknown, and its count and 1, 0 when not learned.
+pub type Known = (usize, usize);
+
+/// What the log has to say, entry by entry.
+#[derive(Clone)]
+pub enum Expected {
+    /// So many calls. All but the last answer 64, the last one answers code and count; all together send these bytes.
+    Calls { calls: usize, code: u8, count: usize, sent: Vec<u8> },
+    /// A server session: echo, linefeeds, spaces and headers, the phase, the last command, the line or the command handed out.
+    Server { settings: [bool; 4], phase: u8, last: Vec<u8>, line: Vec<u8> },
+    /// A finish, and whether the client's session is framed.
+    Values { values: Values, framed: bool },
+    /// A client session at rest: framing, repeat and multi-PID support, the last query, and what is known of each PID.
+    Client { framing: bool, repeat: u8, multi: u8, last: Vec<u8>, known: Vec<Known> },
+    /// The reply to a raw command.
+    Reply(Vec<u8>),
+}
+
+#[derive(Default)]
+pub struct Plan {
+    pub script: Script,
+    /// With the number of the case's call or piece.
+    pub expected: Vec<(usize, Expected)>,
+    /// What came about in this case.
+    pub seen: Vec<&'static str>,
+}
+
+/// What was compared.
+#[derive(Default)]
+pub struct Tally {
+    pub sessions: usize,
+    pub calls: usize,
+    pub states: usize,
+    pub values: usize,
+    /// Counts left out, as docs/DIFFERENCES.md says: unframed, of a PID that occurs more than 255 times.
+    pub left_out: usize,
+    /// How often each thing came about.
+    pub seen: BTreeMap<&'static str, usize>,
+}
+
+impl Tally {
+    pub fn add(&mut self, other: &Tally) {
+        self.sessions += other.sessions;
+        self.calls += other.calls;
+        self.states += other.states;
+        self.values += other.values;
+        self.left_out += other.left_out;
+        for (name, times) in &other.seen {
+            *self.seen.entry(name).or_default() += times;
+        }
+    }
+}
+
+pub fn shown(bytes: &[u8]) -> String {
+    format!("\"{}\"", bytes.escape_ascii())
+}
+
+/// Fails with both sides' answers unless they are the same.
+fn same<T: PartialEq>(what: &str, rust: T, rattle: T, show: impl Fn(&T) -> String) -> Result<(), String> {
+    if rust == rattle {
+        return Ok(());
+    }
+    Err(format!("{what}: the Rust gives {}, Rattle gives {}", show(&rust), show(&rattle)))
+}
+
+fn same_bytes(what: &str, rust: &[u8], rattle: &[u8]) -> Result<(), String> {
+    same(what, rust, rattle, |bytes| shown(bytes))
+}
+
+fn number(bytes: &[u8], at: &mut usize) -> Option<usize> {
+    let mut n = 0;
+    let mut scale = 1;
+    loop {
+        let byte = usize::from(*bytes.get(*at)?);
+        *at += 1;
+        n += byte % 128 * scale;
+        scale *= 128;
+        if byte < 128 {
+            return Some(n);
+        }
+    }
+}
+
+/// Value records of document 01, by PID.
+fn read_values(bytes: &[u8]) -> Option<Values> {
+    let mut values = Values::new();
+    let mut at = 0;
+    while at < bytes.len() {
+        let pid = bytes[at];
+        at += 1;
+        let ecu = u16::try_from(number(bytes, &mut at)?).ok()?;
+        let size = number(bytes, &mut at)?;
+        let data = bytes.get(at..at + size)?.to_vec();
+        at += size;
+        values.entry(pid).or_default().push((ecu, data));
+    }
+    Some(values)
+}
+
+impl Plan {
+    /// Compares a log with what the Rust gave; the first difference, if there is one.
+    pub fn check(&self, mut log: Log) -> Result<Tally, String> {
+        let mut tally = Tally { sessions: 1, calls: self.script.calls, ..Tally::default() };
+        // PIDs that occurred more than 255 times in the reply just finished, and those whose counts are left out from then on.
+        let mut often = [false; 256];
+        let mut out = [false; 256];
+        for (n, expected) in &self.expected {
+            check_entry(expected, &mut log, &mut tally, &mut often, &mut out).map_err(|what| format!("at {n}: {what}"))?;
+        }
+        if !log.is_read() {
+            return Err("the log goes on".to_string());
+        }
+        for name in &self.seen {
+            *tally.seen.entry(name).or_default() += 1;
+        }
+        Ok(tally)
+    }
+}
+
+fn check_entry(
+    expected: &Expected,
+    log: &mut Log,
+    tally: &mut Tally,
+    often: &mut [bool; 256],
+    out: &mut [bool; 256],
+) -> Result<(), String> {
+    match expected {
+        Expected::Calls { calls, code, count, sent } => {
+            let mut all = Vec::new();
+            for left in (0..*calls).rev() {
+                let answer = log.answer();
+                all.extend_from_slice(answer.sent);
+                let rust = if left == 0 { (*code, *count) } else { (64, 0) };
+                same("answer and count", rust, (answer.code, answer.count), |pair| format!("{pair:?}"))?;
+            }
+            same_bytes("sent", sent, &all)
+        }
+        Expected::Server { settings, phase, last, line } => {
+            tally.states += 1;
+            let ours = [log.byte() == 1, log.byte() == 1, log.byte() == 1, log.byte() == 1];
+            same("echo, linefeeds, spaces, headers", *settings, ours, |s| format!("{s:?}"))?;
+            same("phase", *phase, log.byte(), |p| p.to_string())?;
+            same_bytes("last command", last, log.text())?;
+            same_bytes("line", line, log.text())
+        }
+        Expected::Values { values, framed } => {
+            let answer = log.answer();
+            same("finish", 64, answer.code, |code| code.to_string())?;
+            let ours = read_values(answer.sent).ok_or("the values are no values")?;
+            let total = values.values().map(Vec::len).sum::<usize>();
+            tally.values += total;
+            for pid in 0..=255 {
+                let none = Vec::new();
+                let theirs = values.get(&pid).unwrap_or(&none);
+                same(&format!("values of {pid:02X}"), theirs, ours.get(&pid).unwrap_or(&none), |v| format!("{v:02X?}"))?;
+                often[usize::from(pid)] = !framed && 255 < theirs.len();
+            }
+            same("number of values", total, answer.count, |n| n.to_string())
+        }
+        Expected::Client { framing, repeat, multi, last, known } => {
+            tally.states += 1;
+            same("framing", *framing, log.byte() == 1, |f| f.to_string())?;
+            same("repeat (0 unknown, 1 yes, 2 no)", *repeat, log.byte(), |r| r.to_string())?;
+            same("multi-PID support (0 unknown, 1 yes, 2 no)", *multi, log.byte(), |m| m.to_string())?;
+            same("under way", 0, log.byte(), |u| u.to_string())?;
+            same_bytes("last query", last, log.text())?;
+            for (pid, &(length, count)) in known.iter().enumerate() {
+                same(&format!("length of {pid:02X}"), length, log.number(), |n| n.to_string())?;
+                let ours = log.number();
+                if often[pid] && ours == 256 && !out[pid] {
+                    out[pid] = true;
+                    tally.left_out += 1;
+                }
+                if !out[pid] {
+                    same(&format!("count and 1 of {pid:02X}"), count, ours, |n| n.to_string())?;
+                }
+            }
+            *often = [false; 256];
+            Ok(())
+        }
+        Expected::Reply(reply) => same_bytes("reply", reply, log.text()),
+    }
+}

@@ -1,0 +1,410 @@
+//! Random cases: what an ELM327 and its reader say, and damaged copies of it.
+use crate::client::{Call, ClientCase, Start};
+use crate::rng::Rng;
+use crate::server::{Answer, Line, Own, ServerCase};
+use crate::stream::Arrival;
+use tachtalk_elm327_lib::MODE01_PID_DATA_LENGTHS;
+
+/// PIDs of the table, of each length, and PIDs outside it.
+const KNOWN: [u8; 12] = [0x00, 0x04, 0x05, 0x0C, 0x0D, 0x1C, 0x20, 0x40, 0x65, 0x80, 0xA0, 0xC0];
+const UNKNOWN: [u8; 6] = [0x66, 0x7F, 0x81, 0xA1, 0xFE, 0xFF];
+
+/// Bytes that a reader of replies or of lines treats in some way of its own, and neighbours of theirs.
+const SPECIAL: &[u8] = b"\0\x01\x08\t\n\x0b\x0c\r\x0e\x1b\x1f !+-/09:>?@AFGZ[`afgz{\x7f";
+
+const TEXTS: [&str; 16] = [
+    "NO DATA", "SEARCHING...", "?", "STOPPED", "UNABLE TO CONNECT", "A12", "+41", "41", "4", "7F 01 12", "BUS INIT: OK", "CAN ERROR", "OK",
+    "41 +C 1A", "+E8 04 41 0C", "ELM327 v1.5",
+];
+
+fn byte(rng: &mut Rng) -> u8 {
+    if rng.chance(60) {
+        return *rng.pick(SPECIAL);
+    }
+    rng.below(128) as u8
+}
+
+fn pid(rng: &mut Rng) -> u8 {
+    match rng.below(10) {
+        0 => rng.below(256) as u8,
+        1..=3 => *rng.pick(&UNKNOWN),
+        _ => *rng.pick(&KNOWN),
+    }
+}
+
+fn count(rng: &mut Rng) -> Option<u8> {
+    match rng.below(10) {
+        0 => Some(rng.below(256) as u8),
+        1..=4 => Some(rng.from(1, 4) as u8),
+        _ => None,
+    }
+}
+
+fn ecu(rng: &mut Rng) -> u16 {
+    if rng.chance(15) {
+        return rng.below(4096) as u16;
+    }
+    *rng.pick(&[0x7E8, 0x7E8, 0x7E9, 0x7EA, 0x000, 0xFFF])
+}
+
+/// How the lines of one reply are written.
+struct Style {
+    framed: bool,
+    spaces: bool,
+    lower: bool,
+    ending: &'static [u8],
+    /// The length of every PID outside the table.
+    unknown: usize,
+}
+
+/// Mostly a style that fits the session's framing.
+fn style(rng: &mut Rng, framed: bool) -> Style {
+    Style {
+        framed: framed != rng.chance(15),
+        spaces: rng.chance(50),
+        lower: rng.chance(15),
+        ending: *rng.pick(&[b"\r" as &[u8], b"\r", b"\r", b"\r\n", b"\n\r", b"\r\r", b" \r", b"\t\r"]),
+        unknown: rng.below(7),
+    }
+}
+
+fn put_hex(rng: &mut Rng, style: &Style, data: &[u8], to: &mut Vec<u8>) {
+    for (i, byte) in data.iter().enumerate() {
+        if style.spaces && 0 < i {
+            to.push(b' ');
+        }
+        let pair = if style.lower || rng.chance(1) { format!("{byte:02x}") } else { format!("{byte:02X}") };
+        to.extend_from_slice(pair.as_bytes());
+    }
+}
+
+/// The data of a line that answers some of the PIDs.
+fn data(rng: &mut Rng, style: &Style, pids: &[u8]) -> Vec<u8> {
+    let mut data = vec![if rng.chance(95) { 0x41 } else { rng.below(256) as u8 }];
+    for &asked in pids {
+        if rng.chance(10) {
+            continue;
+        }
+        let given = if rng.chance(95) { asked } else { pid(rng) };
+        let size = match MODE01_PID_DATA_LENGTHS[usize::from(given)] {
+            Some(n) => usize::from(n),
+            None => style.unknown,
+        };
+        let size = if rng.chance(95) { size } else { rng.below(9) };
+        data.push(given);
+        data.extend((0..size).map(|_| rng.below(256) as u8));
+    }
+    data
+}
+
+fn put_line(rng: &mut Rng, style: &Style, pids: &[u8], to: &mut Vec<u8>) {
+    if rng.chance(10) {
+        to.extend_from_slice(rng.pick(&TEXTS).as_bytes());
+    } else {
+        let data = data(rng, style, pids);
+        if style.framed != rng.chance(2) {
+            let space = if style.spaces { " " } else { "" };
+            let size = if rng.chance(90) { data.len() as u8 } else { rng.below(256) as u8 };
+            to.extend_from_slice(format!("{:03X}{space}{size:02X}{space}", ecu(rng)).as_bytes());
+        }
+        put_hex(rng, style, &data, to);
+    }
+    to.extend_from_slice(if rng.chance(97) { style.ending } else { b"\r" });
+}
+
+/// A few bytes changed, left out, put in or repeated.
+fn damage(rng: &mut Rng, text: &mut Vec<u8>) {
+    for _ in 0..rng.from(1, 4) {
+        let at = rng.below(text.len() + 1);
+        match rng.below(5) {
+            0 if at < text.len() => text[at] = byte(rng),
+            1 if at < text.len() => {
+                text.remove(at);
+            }
+            2 => {
+                let end = text.len().min(at + rng.below(12));
+                let part = text[at..end].to_vec();
+                text.splice(at..at, part);
+            }
+            3 if at < text.len() => text[at] ^= 0x20,
+            _ => text.insert(at, byte(rng)),
+        }
+    }
+}
+
+/// A reply of at most 4,096 bytes, mostly with its prompt.
+fn reply(rng: &mut Rng, style: &Style, pids: &[u8]) -> Vec<u8> {
+    let mut text = Vec::new();
+    let lines = match rng.below(20) {
+        0 => 0,
+        1..=9 => 1,
+        10..=13 => 2,
+        14..=18 => rng.from(3, 8),
+        _ => rng.from(9, 60),
+    };
+    for _ in 0..lines {
+        put_line(rng, style, pids, &mut text);
+    }
+    if rng.chance(25) {
+        damage(rng, &mut text);
+    }
+    if rng.chance(80) {
+        text.extend_from_slice(style.ending);
+    }
+    if rng.chance(97) {
+        text.push(b'>');
+    }
+    if rng.chance(10) {
+        text.extend((0..rng.below(20)).map(|_| byte(rng)));
+    }
+    // A reply of nearly the most bytes there can be, with lines before or after its own.
+    if rng.chance(2) {
+        let size = rng.from(4080, 4096);
+        let mut filled = Vec::new();
+        while filled.len() + text.len() < size {
+            put_line(rng, style, pids, &mut filled);
+        }
+        filled.truncate(size.saturating_sub(text.len()));
+        filled.extend_from_slice(&text);
+        text = filled;
+    }
+    text.truncate(4096);
+    text
+}
+
+/// The sizes in which bytes arrive, of at most so many.
+fn size(rng: &mut Rng, mode: usize, most: usize) -> usize {
+    match mode {
+        0 => most,
+        1 => 1,
+        2 => rng.from(1, 8),
+        3 => rng.from(most - 1, most),
+        _ => rng.from(1, most),
+    }
+}
+
+fn pieces(rng: &mut Rng, text: &[u8], most: usize) -> Vec<Vec<u8>> {
+    let mode = if 600 < text.len() { *rng.pick(&[0, 3, 4]) } else { rng.below(6) };
+    let mut pieces = Vec::new();
+    let mut left = text;
+    while !left.is_empty() {
+        let n = left.len().min(size(rng, mode, most));
+        pieces.push(left[..n].to_vec());
+        left = &left[n..];
+    }
+    pieces
+}
+
+/// A read that fails or a connection that closes, after so many arrivals at least.
+fn interrupt(rng: &mut Rng, arrivals: &mut Vec<Arrival>, from: usize) {
+    let at = rng.from(from.min(arrivals.len()), arrivals.len());
+    let failure = if rng.chance(50) { Arrival::Failed } else { Arrival::Closed };
+    arrivals.insert(at, failure);
+}
+
+fn arrivals(rng: &mut Rng, text: &[u8]) -> Vec<Arrival> {
+    pieces(rng, text, 128).into_iter().map(Arrival::Piece).collect()
+}
+
+/// What arrives during an initialisation: an answer to ATZ and five replies.
+fn init_arrivals(rng: &mut Rng) -> Vec<Arrival> {
+    let mut all = Vec::new();
+    let banner: Vec<u8> = match rng.below(4) {
+        0 => (0..rng.from(1, 256)).map(|_| rng.below(256) as u8).collect(),
+        _ => b"ATZ\r\r\rELM327 v1.5\r\r>".to_vec(),
+    };
+    all.push(Arrival::Piece(banner));
+    if rng.chance(10) {
+        all[0] = if rng.chance(50) { Arrival::Failed } else { Arrival::Closed };
+    }
+    for _ in 0..5 {
+        let mut text = b"OK\r\r>".to_vec();
+        if rng.chance(10) {
+            damage(rng, &mut text);
+        }
+        all.extend(arrivals(rng, &text));
+    }
+    if rng.chance(20) {
+        all.truncate(rng.below(all.len() + 1));
+    }
+    all
+}
+
+fn raw(rng: &mut Rng) -> Vec<u8> {
+    match rng.below(12) {
+        0..=2 => b"ATH1".to_vec(),
+        3..=4 => b"ATH0".to_vec(),
+        5 => b"ATZ".to_vec(),
+        6 => rng.pick(&[b"ath1" as &[u8], b"aTh0", b"AtZ", b"atz"]).to_vec(),
+        7 => rng.pick(&[b"ATH1\r" as &[u8], b"ATZ\r", b"ATH0\r", b" ATH1", b"AT H1", b"ATH1 ", b"ATH10", b"ATH", b"ATZ0"]).to_vec(),
+        8 => rng.pick(&[b"" as &[u8], b"\r", b"\r\r", b"010C", b"0100\r"]).to_vec(),
+        9 => (0..rng.from(60, 64)).map(|_| byte(rng)).collect(),
+        _ => (0..rng.from(0, 64)).map(|_| byte(rng)).collect(),
+    }
+}
+
+fn query(rng: &mut Rng) -> Start {
+    if rng.chance(50) {
+        return Start::Pid(pid(rng), count(rng));
+    }
+    let n = if rng.chance(20) { 1 } else { rng.from(2, 6) };
+    let mut pids: Vec<u8> = (0..n).map(|_| pid(rng)).collect();
+    if 1 < n && rng.chance(10) {
+        pids[1] = pids[0];
+    }
+    Start::Pids(pids, count(rng))
+}
+
+/// A client session of some calls.
+pub fn client(rng: &mut Rng) -> ClientCase {
+    let mut case = ClientCase { framing: rng.chance(60), repeat: rng.chance(60), calls: Vec::new() };
+    let mut last: Option<Start> = None;
+    // Whether the session is framed, if all goes well.
+    let mut framed = false;
+    let mut like = style(rng, framed);
+    for _ in 0..rng.from(1, 16) {
+        if rng.chance(20) || (like.framed != framed && rng.chance(80)) {
+            like = style(rng, framed);
+        }
+        let mut call = Call { start: Start::Init, arrivals: Vec::new(), failed_write: None };
+        match rng.below(100) {
+            0..=6 => {
+                call.arrivals = init_arrivals(rng);
+                framed = case.framing;
+            }
+            7..=19 => {
+                let command = raw(rng);
+                let text = if rng.chance(70) { b"OK\r\r>".to_vec() } else { reply(rng, &like, &[0x0C]) };
+                match &command.to_ascii_uppercase()[..] {
+                    b"ATH1" => framed = true,
+                    b"ATH0" | b"ATZ" => framed = false,
+                    _ => {}
+                }
+                call.start = Start::Command(command);
+                call.arrivals = arrivals(rng, &text);
+            }
+            _ => {
+                let again = if rng.chance(45) { last.clone() } else { None };
+                let start = again.unwrap_or_else(|| query(rng));
+                last = Some(start.clone());
+                let pids = match &start {
+                    Start::Pid(pid, _) => vec![*pid],
+                    Start::Pids(pids, _) => pids.clone(),
+                    Start::Init | Start::Command(_) => Vec::new(),
+                };
+                call.start = start;
+                if rng.chance(8) {
+                    let refused = *rng.pick(&[b"?\r\r>" as &[u8], b"?>", b">?", b"\r?\r\r>41"]);
+                    call.arrivals = arrivals(rng, refused);
+                }
+                let text = reply(rng, &like, &pids);
+                call.arrivals.extend(arrivals(rng, &text));
+            }
+        }
+        if rng.chance(6) {
+            // The answer to ATZ stays the first to arrive: it alone may hold bytes of 80 and more.
+            let from = if call.start == Start::Init { 1 } else { 0 };
+            interrupt(rng, &mut call.arrivals, from);
+        }
+        if rng.chance(4) {
+            call.failed_write = Some(rng.below(7));
+        }
+        case.calls.push(call);
+    }
+    case
+}
+
+fn word(rng: &mut Rng, most: usize) -> String {
+    let n = rng.from(0, most);
+    (0..n).map(|_| char::from(byte(rng))).collect()
+}
+
+fn line(rng: &mut Rng) -> Line {
+    let ecu = if rng.chance(40) { None } else { Some(ecu(rng)) };
+    let size = match rng.below(20) {
+        0 => 0,
+        1 => rng.from(250, 255),
+        2 => rng.below(256),
+        _ => rng.from(1, 8),
+    };
+    (ecu, (0..size).map(|_| rng.below(256) as u8).collect())
+}
+
+fn answer(rng: &mut Rng) -> Answer {
+    match rng.below(20) {
+        0..=1 => Answer::Lines(Vec::new()),
+        2 => Answer::Text(rng.pick(&["?", "NO DATA", "UNABLE TO CONNECT", ""]).to_string()),
+        3 => Answer::Text(word(rng, 64)),
+        4 => Answer::Lines((0..rng.from(60, 64)).map(|_| line(rng)).collect()),
+        _ => Answer::Lines((0..rng.from(1, 4)).map(|_| line(rng)).collect()),
+    }
+}
+
+const AT: [&str; 28] = [
+    "ATZ", "ATE0", "ATE1", "ATL0", "ATL1", "ATS0", "ATS1", "ATH0", "ATH1", "ATRV", "ATSP0", "ATSP6", "ATSPA", "ATST64", "ATAT1", "ATAT2", "ATAT0",
+    "ATDP", "ATDPN", "ATDPX", "ATI", "AT@1", "AT", "AT?", "ATZZ", "ATE", "ATE2", "ATIS",
+];
+
+/// A line as a reader sends it, at most 128 bytes before its CR.
+fn command(rng: &mut Rng, to: &mut Vec<u8>) {
+    let mut text: Vec<u8> = match rng.below(20) {
+        0..=9 => rng.pick(&AT).as_bytes().to_vec(),
+        10..=14 => format!("01{:02X}", pid(rng)).into_bytes(),
+        15..=16 => Vec::new(),
+        17 => rng.pick(&["010C0D 1", " 0 1 0 c ", "0902", "a t z", "\t\u{b}\u{c}", "TA"]).as_bytes().to_vec(),
+        18 => (0..rng.from(120, 128)).map(|_| byte(rng)).filter(|b| *b != b'\r').collect(),
+        _ => word(rng, 40).into_bytes(),
+    };
+    if rng.chance(15) {
+        text.make_ascii_lowercase();
+    }
+    if rng.chance(15) {
+        let at = rng.below(text.len() + 1);
+        text.insert(at, *rng.pick(b" \t\n\0"));
+    }
+    if rng.chance(5) {
+        damage(rng, &mut text);
+    }
+    text.truncate(128);
+    to.extend_from_slice(&text);
+    to.push(b'\r');
+    if rng.chance(15) {
+        to.push(b'\n');
+    }
+}
+
+/// What a reader sends, so that no line has more than 128 bytes.
+fn within_lines(text: &mut Vec<u8>) {
+    let mut size = 0;
+    text.retain(|&byte| {
+        match byte {
+            b'\r' => size = 0,
+            b'\n' => {}
+            _ if size == 128 => return false,
+            _ => size += 1,
+        }
+        true
+    });
+}
+
+/// A server session of some lines.
+pub fn server(rng: &mut Rng) -> ServerCase {
+    let mut text = Vec::new();
+    for _ in 0..rng.from(1, 12) {
+        command(rng, &mut text);
+    }
+    if rng.chance(10) {
+        text.pop();
+    }
+    within_lines(&mut text);
+    ServerCase {
+        own: match rng.below(8) {
+            0 => Own::Ati(word(rng, 32)),
+            1 => Own::Device(word(rng, 32)),
+            _ => Own::usual(),
+        },
+        by_byte: rng.chance(40),
+        pieces: pieces(rng, &text, 200),
+        answers: (0..rng.from(0, 3)).map(|_| answer(rng)).collect(),
+    }
+}

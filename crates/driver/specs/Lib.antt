@@ -1,0 +1,4 @@
+pub mod Log
+pub mod Script
+pub mod Server
+pub mod Client
