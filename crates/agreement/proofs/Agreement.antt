@@ -1,18 +1,16 @@
 -- Demand 3: two runs have equal records exactly when the two vehicles gave the same.
-use mathlib.Core.Path.{_≡_, refl, sym, ap, subst, _∙_}
+use mathlib.Core.Path.{_≡_, refl, sym, ap, _∙_}
 use mathlib.Core.List.{List, [], _∷_, map}
 use mathlib.Core.Logic.{_↔_}
 use Prim.Native.Nat.{ℕ, zero, suc, _≤_, _<_}
 use native.Mathlib.Omega.{arith}
 use lib.ListN.{length, take, length-take}
 use lib.Seq.{sets, take-all}
-use Rattle.wire.specs.Answer.{Answer, result}
 use Rattle.wire.specs.Put.{Put}
 use Rattle.wire.proofs.PutLaws.{put-front}
 use Rattle.wire.proofs.All.{all-from}
-use Rattle.group.specs.Group.{Read, got}
 use Rattle.value.specs.Values.{Value, recordBytes, readRecord}
-use Rattle.value.specs.Same.{SameValues, SameQueries, SameRecord}
+use Rattle.value.specs.Same.{SameValues, SameQueries}
 use Rattle.value.proofs.RecordLaws.{RecordFits, record-back, same-record}
 use Rattle.reply_values.specs.Values.{answerOrder}
 use Rattle.script.specs.Script.{Query}
@@ -20,7 +18,7 @@ use Rattle.script.specs.Written.{AllInLimits}
 use Rattle.script.proofs.ScriptLaws.{script-limits}
 use Rattle.bench.specs.Run.{Run, Recorded, runAnswer}
 use Rattle.agreement.specs.Vehicle.{given}
-use Rattle.agreement.specs.Demand.{givens, commands, fitting, partsIn, firstOf, SameFirst, Drive, hireRecord, standing, comesTo, EveryFits, Holds, Agreement}
+use Rattle.agreement.specs.Demand.{givens, commands, fitting, partsIn, SameFirst, Drive, hireRecord, standing, comesTo, EveryFits, Holds, Agreement}
 use Rattle.agreement.proofs.Finished.{answer-reordered}
 use Rattle.agreement.proofs.Ran.{script-ready, run-told}
 use Rattle.agreement.proofs.Told.{ordered, given-fits, told, fitting-few, told-parts, told-handed, told-inside, told-whole}

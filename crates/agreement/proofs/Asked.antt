@@ -1,12 +1,11 @@
 -- One query of a run: its part is what the vehicle gave, or 8 where its reply is too long.
 use mathlib.Core.Path.{_≡_, refl, sym, ap, subst, _∙_}
-use mathlib.Core.Bool.{Bool, true, false, cond, _&&_}
+use mathlib.Core.Bool.{Bool, true, false, _&&_}
 use mathlib.Core.List.{List, [], _∷_, _++_}
-use Prim.Native.Nat.{ℕ, zero, suc, _≤_, _<_}
+use Prim.Native.Nat.{ℕ, _≤_, _<_}
 use native.Mathlib.Omega.{arith}
-use lib.Dec.{ltb}
 use lib.ListN.{length}
-use lib.Seq.{sets, length-sets}
+use lib.Seq.{sets}
 use Rattle.wire.specs.Answer.{Answer, result, refused}
 use Rattle.wire.specs.Text.{same}
 use Rattle.wire.proofs.Cases.{by-test, from-no}
@@ -14,36 +13,33 @@ use Rattle.wire.proofs.TextLaws.{same-true}
 use Rattle.wire.proofs.All.{Bytes}
 use Rattle.group.specs.Group.{groupBytes}
 use Rattle.line_list.specs.Lines.{Line, AllFit, linesBytes}
-use Rattle.value.specs.Values.{Value, valuesBytes, partBytes}
+use Rattle.value.specs.Values.{partBytes}
 use Rattle.reply.specs.Reply.{replyText}
-use Rattle.reply.proofs.ByteLaws.{replyBody, reply-prompt}
+use Rattle.reply.proofs.ByteLaws.{replyBody}
 use Rattle.reply_lines.specs.Lines.{unspaced}
 use Rattle.reply_values.specs.Values.{answerOrder}
 use Rattle.query.specs.Query.{queryText}
 use Rattle.query.proofs.QueryLaws.{query-some}
-use Rattle.server_state.specs.declared.FeatureSupport.the-variants as support
-use Rattle.server_state.specs.State.{decided, mayTry}
+use Rattle.server_state.specs.State.{mayTry}
 use Rattle.client_session.specs.declared.Under.{Under}
 use Rattle.client_session.specs.declared.Under.the-variants as under
-use Rattle.client_session.specs.Session.{Known, Client, Said, saying, withUnder, withKnown, withLast, withRepeat}
+use Rattle.client_session.specs.Session.{Known, Client, Said, saying}
 use Rattle.server_session.specs.Session.{Session}
-use Rattle.client_session.specs.Start.{isNothing, repeats, newQuery, asking, queryStarted}
-use Rattle.client_session.specs.Piece.{Progress, complete, completed, replyIn}
+use Rattle.client_session.specs.Start.{repeats, newQuery, queryStarted}
+use Rattle.client_session.specs.Piece.{Progress, complete, replyIn}
 use Rattle.client_session.specs.Finish.{finishSays}
-use Rattle.client_session.proofs.StartLaws.{query-repeated, query-in-full, pid-starts, pids-starts}
+use Rattle.client_session.proofs.StartLaws.{query-repeated, query-in-full}
 use Rattle.client_session.proofs.PiecesLaws.{Awaiting, prompted}
 use Rattle.script.specs.Script.{Query}
 use Rattle.exchange.specs.Exchange.{Exchanged, exchanged}
-use Rattle.exchange.specs.Deliver.{delivered}
 use Rattle.bench.specs.Run as run
-use Rattle.bench.specs.Run.{sendRoom, replyRoom, valuesRoom, Bench, Turn, turned, turn, onward, startSays, Part, partOf, finishing, finished, part}
+use Rattle.bench.specs.Run.{sendRoom, replyRoom, valuesRoom, Bench, Turn, turn, onward, startSays, Part, partOf, finished, part}
 use Rattle.script.proofs.LinesLaws.{AllBytes}
 use Rattle.agreement.specs.Lines.{GoodLines}
 use Rattle.agreement.specs.Vehicle.{given}
 use Rattle.agreement.specs.Demand.{commandOf}
 use Rattle.agreement.proofs.Agree.{Agree}
 use Rattle.agreement.proofs.Heard.{quiet, unspaced-some, unspaced-short, heard, heard-again}
-use Rattle.agreement.proofs.Arrive.{reply-stands, plainly, no-question, reply-overflows}
 use Rattle.agreement.proofs.Finished.{answer-reordered, finish-given}
 use Rattle.agreement.proofs.Started.{settled, Between}
 use Rattle.agreement.proofs.Replied as replied

@@ -1,7 +1,7 @@
 -- On every script a run is ended by no number but 3 or 5 before it, and 8 or 6 as it runs: 8 where a reply has over 4,096 bytes, 6 where a part overruns the
 -- record buffer.
 use mathlib.Core.Path.{_≡_, refl, sym, ap, subst, _∙_}
-use mathlib.Core.Bool.{Bool, true, false, cond, _&&_}
+use mathlib.Core.Bool.{Bool, true, false}
 use mathlib.Core.List.{List, [], _∷_, _++_}
 use Prim.Native.Nat.{ℕ, zero, suc, _-_, _≤_, _<_}
 use native.Mathlib.Omega.{arith}
@@ -15,15 +15,13 @@ use Rattle.wire.proofs.All.{Bytes}
 use Rattle.wire.proofs.Cases.{by-test, from-no}
 use Rattle.line_list.specs.Lines.{Line, linesBytes}
 use Rattle.reply.specs.Reply.{replyText}
-use Rattle.reply.proofs.ByteLaws.{replyBody, reply-prompt, reply-low}
+use Rattle.reply.proofs.ByteLaws.{replyBody, reply-low}
 use Rattle.reply_lines.specs.Lines.{unspaced}
 use Rattle.query.specs.Query.{queryText}
 use Rattle.server_state.specs.declared.FeatureSupport.the-variants as support
-use Rattle.server_state.specs.State.{decided}
 use Rattle.client_session.specs.declared.Under.{Under}
 use Rattle.client_session.specs.declared.Under.the-variants as under
-use Rattle.client_session.specs.Session as client
-use Rattle.client_session.specs.Session.{Known, Client, Said, saying, withUnder, withKnown, withLast, withRepeat}
+use Rattle.client_session.specs.Session.{Known, Client, Said, withRepeat}
 use Rattle.client_session.specs.Start.{repeats, newQuery, queryStarted}
 use Rattle.client_session.specs.Piece.{Progress, complete, replyIn}
 use Rattle.client_session.specs.Finish.{finishSays}
@@ -33,15 +31,14 @@ use Rattle.group.specs.Group.{Read, got}
 use Rattle.group.specs.Group.{malformed as none}
 use Rattle.script.specs.Script.{Query, readQueries, queriesOf, script}
 use Rattle.exchange.specs.Exchange.{Exchanged, exchanged}
-use Rattle.exchange.specs.Deliver.{delivered}
 use Rattle.bench.specs.Run as run
-use Rattle.bench.specs.Run.{sendRoom, replyRoom, valuesRoom, Bench, Turn, turn, onward, later, startSays, Part, partOf, finished, part, Run, asked, runSays, runRead, initialised}
+use Rattle.bench.specs.Run.{sendRoom, replyRoom, valuesRoom, Bench, Turn, turn, onward, later, startSays, Part, partOf, finished, part, asked, runSays, runRead, initialised}
 use Rattle.agreement.specs.Ends as ends
 use Rattle.agreement.specs.Ends.{Ends, too-long, malformed, small-buffer, too-much}
-use Rattle.agreement.proofs.Heard.{quiet, lastCommand, unspaced-some, unspaced-short, heard, heard-again, heard-unknown}
-use Rattle.agreement.proofs.Arrive.{reply-stands, plainly, no-question, question-plainly, reply-overflows}
+use Rattle.agreement.proofs.Heard.{quiet, lastCommand, unspaced-short, heard, heard-again, heard-unknown}
+use Rattle.agreement.proofs.Arrive.{question-plainly}
 use Rattle.agreement.proofs.Finished.{finish-any}
-use Rattle.agreement.proofs.Started.{settled, settles, Between, started}
+use Rattle.agreement.proofs.Started.{settled, settles, started}
 use Rattle.agreement.proofs.Replied as replied
 use Rattle.agreement.proofs.Asked.{Ready}
 use Rattle.agreement.proofs.Ran.{AllReady, script-ready}

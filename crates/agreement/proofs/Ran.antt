@@ -1,21 +1,20 @@
 -- A run of the demand's queries comes to what the script alone tells.
-use mathlib.Core.Path.{_≡_, refl, sym, ap, _∙_}
+use mathlib.Core.Path.{_≡_, refl, ap, _∙_}
 use mathlib.Core.Bool.{Bool, true, false}
-use mathlib.Core.List.{List, [], _∷_, _++_}
-use Prim.Native.Nat.{ℕ, zero, suc, _-_, _≤_, _<_}
-use native.Mathlib.Omega.{arith}
+use mathlib.Core.List.{List, [], _∷_}
+use Prim.Native.Nat.{ℕ, _-_}
 use lib.Dec.{ltb}
 use lib.ListN.{length}
 use borrow.Author.Tests.{ltb-true, ltb-false}
-use Rattle.wire.specs.Answer.{Answer, result}
+use Rattle.wire.specs.Answer.{result}
 use Rattle.wire.proofs.Cases.{by-test}
 use Rattle.wire.proofs.All.{Bytes}
 use Rattle.reply.specs.Reply.{replyText}
 use Rattle.script.specs.Script.{Query, script}
 use Rattle.script.specs.Written.{AllInLimits}
 use Rattle.script.proofs.ScriptLaws.{AllAreBytes, script-limits, script-bytes}
-use Rattle.bench.specs.Run.{Bench, Turn, initialised, Part, part, Run, standing, sizeOf, asked, begun, runRead, runSays}
-use Rattle.agreement.specs.Demand.{GoodQueries, commandOf}
+use Rattle.bench.specs.Run.{Bench, initialised, part, asked, runRead, runSays}
+use Rattle.agreement.specs.Demand.{GoodQueries}
 use Rattle.agreement.proofs.Started.{Between, started}
 use Rattle.agreement.proofs.Asked.{Ready, Outcome, outcome}
 use Rattle.agreement.proofs.Told.{givenPart, told}

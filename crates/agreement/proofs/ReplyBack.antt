@@ -1,28 +1,19 @@
 -- The client reads back the lines that the server replied with, in the settings of a framed initialisation: linefeeds and spaces off, headers on. An unknown ECU
 -- comes back as 7E8.
 use mathlib.Core.Path.{_≡_, refl, sym, ap, _∙_}
-use mathlib.Core.Bool.{Bool, true, false}
+use mathlib.Core.Bool.{true, false}
 use mathlib.Core.List.{List, [], _∷_, _++_, map}
 use Prim.Native.Nat.{ℕ, zero, suc, _≤_, _<_}
 use native.Mathlib.Omega.{arith}
 use lib.ListN.{length}
-use borrow.Author.Tests.{le-ltb}
-use Rattle.wire.specs.Text.{high}
-use Rattle.wire.proofs.All.{Bytes}
 use Rattle.hex.specs.Digits.{hexByte, hexId, hexBytes}
 use Rattle.line_list.specs.Lines.{Line, line, AllFit}
 use Rattle.reply.specs.Shape.{chipReply}
 use Rattle.reply.specs.Reply.{ecuId, furtherHex, dataHex, lineText, replyText}
-use Rattle.reply.proofs.ByteLaws.{reply-low}
 use Rattle.reply_lines.specs.Lines.{textLines}
 use Rattle.reply_lines.specs.Decode.{textLine, replyLines}
 use Rattle.reply_lines.proofs.BackLaws.{plain-line, empty-line, prompt-line, framed-plain, framed-back}
-use Rattle.reply_values.specs.Values.{valuesOf}
-use Rattle.reply_values.specs.Learn.{lengthsAfter}
 use Rattle.script.proofs.LinesLaws.{AllBytes}
-use Rattle.client_session.specs.Session.{Client, Said}
-use Rattle.client_session.specs.Piece.{replyIn}
-use Rattle.client_session.specs.Finish.{isComplete, finished, roomFor, finishSays}
 
 -- a line with its ECU known
 abbrev pub known : Line → Line
@@ -69,20 +60,3 @@ decoded (l ∷ ls) f b =
 pub reply-back : (l : Line) (ls : List Line) → AllFit (l ∷ ls) → AllBytes (l ∷ ls) → replyLines true (replyText false false true (l ∷ ls)) ≡ map known (l ∷ ls)
 unfolding replyText replyLines
 reply-back l ls f b = ap (map (textLine true)) (texts (l ∷ ls)) ∙ decoded (l ∷ ls) f b
-
--- what a finish makes of a reply's lines
-abbrev finishedWith : ℕ → Client → List Line → Said ℕ
-finishedWith room c ls =
-    let lengths = lengthsAfter (c .query .several) (c .query .pids) (c .known .lengths) ls in
-    roomFor room c (finished c lengths (valuesOf lengths ls))
-
--- what finish yields for a reply that the server wrote: the values of its lines, each with its ECU known
-pub finish-replied : (room : ℕ) (c : Client) (store : List ℕ) (l : Line) (ls : List Line) → isComplete (c .under) ≡ true → 4096 ≤ length store → c .known .framing ≡ true →
-    replyIn c store ≡ replyText false false true (l ∷ ls) → AllFit (l ∷ ls) → AllBytes (l ∷ ls) → finishSays room c store ≡ finishedWith room c (map known (l ∷ ls))
-unfolding finishSays
-finish-replied room c store l ls turn whole framed r f b =
-    let low : high (replyIn c store) ≡ false = ap high r ∙ reply-low false false true (l ∷ ls) in
-    rw (turn, le-ltb (length store) 4096 whole, low)
-    (ap (λ (s : List ℕ). finishedWith room c (replyLines (c .known .framing) s)) r ∙
-    ap (λ (b : Bool). finishedWith room c (replyLines b (replyText false false true (l ∷ ls)))) framed ∙
-    ap (finishedWith room c) (reply-back l ls f b))

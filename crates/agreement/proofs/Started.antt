@@ -1,27 +1,25 @@
 -- After the initialisation, whatever the pieces: the sessions between queries.
 use mathlib.Core.Path.{_≡_, refl, sym, ap, subst, _∙_}
 use mathlib.Core.Bool.{Bool, true, false}
-use mathlib.Core.List.{List, [], _∷_, _++_}
-use Prim.Native.Nat.{ℕ, zero, suc, _≤_, _<_}
+use mathlib.Core.List.{List, []}
+use Prim.Native.Nat.{ℕ, suc, _≤_, _<_}
 use native.Mathlib.Omega.{arith}
-use lib.Dec.{lit≤, lit<}
 use lib.ListN.{length, replicate, length-replicate}
 use lib.Seq.{sets, length-sets}
-use Rattle.wire.specs.Answer.{Answer, result, refused}
+use Rattle.wire.specs.Answer.{result}
 use Rattle.wire.specs.Text.{ascii, has, high}
-use Rattle.wire.proofs.Cases.{from-no}
 use Rattle.pid.specs.Lengths.{mode01Lengths}
 use Rattle.server_state.specs.declared.FeatureSupport.the-variants as support
 use Rattle.server_state.specs.State.{supportAtFirst}
 use Rattle.reply_lines.specs.Lines.{unspaced}
-use Rattle.server_session.specs.Session.{Session, freshSession}
+use Rattle.server_session.specs.Session.{Session}
 use Rattle.client_session.specs.declared.Under.the-variants as under
-use Rattle.client_session.specs.Session.{Known, Client, Said, freshClient, withFraming}
+use Rattle.client_session.specs.Session.{Known, Said, freshClient, withFraming}
 use Rattle.client_session.specs.Start.{initSays}
 use Rattle.client_session.specs.Piece.{Progress, sent, over, completed, pieceSays}
 use Rattle.client_session.proofs.PiecesLaws.{Awaiting, Plainly, prompted}
 use Rattle.exchange.specs.Exchange.{Exchanged, exchanged}
-use Rattle.exchange.specs.Deliver.{Delivered, delivered}
+use Rattle.exchange.specs.Deliver.{delivered}
 use Rattle.bench.specs.Run.{sendRoom, replyRoom, freshStore, Bench, Turn, turned, turn, onward, reset, initialised}
 use Rattle.agreement.proofs.Agree.{Agree, agree-fresh}
 use Rattle.agreement.proofs.Heard.{quiet, during, reset-heard, echo-off-heard, linefeeds-off-heard, spaces-off-heard, protocol-heard, headers-on-heard}

@@ -1,20 +1,19 @@
 -- What a run of the demand comes to, by the script alone: neither the piece lengths nor repeat come into it.
-use mathlib.Core.Path.{_≡_, refl, sym, ap, _∙_}
+use mathlib.Core.Path.{_≡_, refl, ap}
 use mathlib.Core.Bool.{true, false, cond}
 use mathlib.Core.List.{List, [], _∷_, _++_, map}
-use mathlib.Core.Option.{Option, none, some}
-use Prim.Native.Nat.{ℕ, zero, suc, _+_, _-_, _≤_, _<_}
+use Prim.Native.Nat.{ℕ, zero, suc, _+_, _-_, _≤_}
 use native.Mathlib.Omega.{arith}
 use lib.Dec.{eqb, ltb}
 use lib.ListN.{length, take, length-append}
-use borrow.Author.Tests.{ltb-true, ltb-false}
-use Rattle.wire.specs.Answer.{Answer, result, refused}
-use Rattle.wire.proofs.Cases.{by-test, from-no}
+use borrow.Author.Tests.{ltb-false}
+use Rattle.wire.specs.Answer.{result}
+use Rattle.wire.proofs.Cases.{by-test}
 use Rattle.pid.specs.J1979.{j1979}
 use Rattle.line_list.specs.Lines.{Line, AllFit}
 use Rattle.group.specs.Group.{groupBytes}
 use Rattle.value.specs.Values.{Value, valuesBytes, partBytes, recordBytes}
-use Rattle.value.proofs.RecordLaws.{ValuesFit, RecordFits}
+use Rattle.value.proofs.RecordLaws.{ValuesFit}
 use Rattle.reply.specs.Reply.{replyText}
 use Rattle.reply_values.specs.Values.{answerOrder}
 use Rattle.script.specs.Script.{Query}

@@ -1,7 +1,7 @@
 -- The premises of demand 3 can be met: three runs of one list of two queries, of which the second asks for a PID outside the table. The first two vehicles gave
 -- the same, in other words of the script, other pieces and with repeat off; the third gave another engine speed.
 use mathlib.Core.Path.{_≡_, refl, ap}
-use mathlib.Core.Bool.{Bool, true, false}
+use mathlib.Core.Bool.{true, false}
 use mathlib.Core.List.{List, [], _∷_, _++_}
 use Prim.Native.Nat.{ℕ, zero, suc, _<_}
 use native.Mathlib.Omega.{arith}
@@ -16,7 +16,7 @@ use Rattle.hex.specs.Read.{digit, leading}
 use Rattle.pid.specs.J1979.{j1979}
 use Rattle.pid.specs.Lengths.{mode01Lengths}
 use Rattle.group.specs.Group.{groupBytes}
-use Rattle.line_list.specs.Lines.{Line, line, lineList}
+use Rattle.line_list.specs.Lines.{line, lineList}
 use Rattle.value.specs.Values.{Value, valueBytes}
 use Rattle.value.specs.Same.{SameRecord}
 use Rattle.at_command.specs.Dialect.{atKind}

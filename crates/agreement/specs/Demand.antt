@@ -10,7 +10,6 @@ use lib.Dec.{ltb}
 use lib.ListN.{length, take, getD}
 use Rattle.wire.specs.Answer.{result}
 use Rattle.group.specs.Group.{Read, got, malformed}
-use Rattle.line_list.specs.Lines.{Line}
 use Rattle.value.specs.Values.{Value, partBytes, readRecord}
 use Rattle.value.specs.Same.{SameQueries, SameReadings, SameRecord}
 use Rattle.reply.specs.Reply.{replyText}

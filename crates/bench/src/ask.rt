@@ -42,7 +42,7 @@ fn start(session: ClientSession, pids: &[u8], count: u16, out: &mut [u8]) -> Sta
 }
 
 // Asks a query; a repeat that meets `?` is followed by the query in full.
-pub fn ask(
+pub(crate) fn ask(
     bench: Bench,
     pids: &[u8],
     count: u16,
@@ -69,7 +69,7 @@ pub fn ask(
 }
 
 // The number of document 01 in what a piece says, 0 for none.
-pub fn piece_number(answer: PieceAnswer) -> u8
+pub(crate) fn piece_number(answer: PieceAnswer) -> u8
     ensures { λ r. ⌜ r ≡ pieceNumber answer ⌝ }
 {
     match answer {
@@ -99,7 +99,7 @@ fn ended(number: u8, bench: Bench) -> PartStep
 }
 
 // Finishes a query whose reply is complete: its values stand in the lent buffer.
-pub fn finish(asked: Turn, store: &[u8], values: &mut [u8]) -> PartStep
+pub(crate) fn finish(asked: Turn, store: &[u8], values: &mut [u8]) -> PartStep
     requires { ⌜ length (now values) ≡ valuesRoom ⌝ }
     ensures { λ r. ⌜ ((lengths : List ℕ) → PartDoes (finished (turnOf asked [] (now (store .entry)) lengths)) r (now (values .exit)) (now (store .entry)) lengths) ⌝ }
 {
@@ -133,7 +133,7 @@ pub fn finish(asked: Turn, store: &[u8], values: &mut [u8]) -> PartStep
 }
 
 // Asks a query and finishes it.
-pub fn part(
+pub(crate) fn part(
     bench: Bench,
     pids: &[u8],
     count: u16,

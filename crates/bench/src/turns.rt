@@ -41,7 +41,7 @@ fn back(
 }
 
 // The client's first n bytes of out go to the server, and all that it sends for them comes back in pieces.
-pub fn turn(
+pub(crate) fn turn(
     bench: Bench,
     n: usize,
     list: &[u8],
@@ -80,7 +80,7 @@ fn is_sent(answer: PieceAnswer) -> bool
 }
 
 // At most n further commands.
-pub fn onward(
+pub(crate) fn onward(
     from: Turn,
     n: usize,
     list: &[u8],
@@ -133,7 +133,7 @@ fn reset(repeat: bool, out: &mut [u8], reply: &mut [u8], store: &mut [u8]) -> Tu
 }
 
 // A fresh client and a fresh server after the initialisation.
-pub fn initialise(
+pub(crate) fn initialise(
     repeat: bool,
     lengths: &[u8],
     out: &mut [u8],

@@ -1,5 +1,5 @@
 -- What a run's contract gives its report.
-use mathlib.Core.Path.{_≡_, refl, sym, ap, _∙_}
+use mathlib.Core.Path.{_≡_, ap, _∙_}
 use mathlib.Core.Bool.{true}
 use mathlib.Core.List.{List, []}
 use Prim.Native.Nat.{ℕ, _≤_}
@@ -8,7 +8,7 @@ use lib.ListN.{length, take}
 use lib.Seq.{sets, length-sets, take-all}
 use Rattle.wire.specs.Put.{Put}
 use Rattle.wire.proofs.PutLaws.{put-then, put-front}
-use Rattle.report.specs.Report.{partLines, refusedLine, reportText}
+use Rattle.report.specs.Report.{partLines, refusedLine}
 use Rattle.bench.specs.declared.BenchRun.{BenchRun}
 use Rattle.bench.specs.declared.RunAnswer.the-variants as answer
 use Rattle.bench.specs.Run.{runSays, runAnswer, Recorded, recorded, lent}
