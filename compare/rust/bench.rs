@@ -184,7 +184,7 @@ pub fn bench() {
             print("  its finish: less a raw command with that reply", (query.0 - raw.0, query.1 - raw.1));
         }
     }
-    for (size, at) in [(64, 64), (64, 1), (1024, 128), (4096, 128), (4096, 1)] {
+    for (size, at) in [(64, 64), (64, 1), (1024, 128), (4096, 128)] {
         let mut text = vec![b'4'; size - 1];
         text.push(b'>');
         let raw = times(client_pair(false, Start::Command(b"ATI".to_vec()), &text, at));

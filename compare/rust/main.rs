@@ -81,7 +81,7 @@ impl Comparison {
 
 fn main() {
     let words: Vec<String> = std::env::args().skip(1).collect();
-    if words.first().is_some_and(|word| word == "bench") {
+    if words.iter().any(|word| word == "bench") {
         return bench::bench();
     }
     let seed = number(&words, "--seed", 1);

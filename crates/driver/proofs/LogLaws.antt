@@ -11,7 +11,7 @@ use Rattle.wire.proofs.PutLaws.{put-none, put-full, put-then, put-rest}
 use Rattle.wire.proofs.ListLaws.{take-min}
 use Rattle.pid.specs.Lengths.{lengthIn}
 use Rattle.server_state.specs.State.{countIn}
-use Rattle.driver.specs.Log.{numberBytes, callEntry, Turn, noted, answered}
+use Rattle.driver.specs.Log.{numberBytes, callEntry, noted, answered}
 use Rattle.driver.specs.Client.{lengthNumber, pidsEntry, countGiven}
 
 -- nothing is written past the end

@@ -1,9 +1,9 @@
 -- Scripts on a client session: each call is what the session's own definition says of it.
-use mathlib.Core.Bool.{Bool, true, false, cond}
+use mathlib.Core.Bool.{true, false, cond}
 use mathlib.Core.List.{List, [], _∷_, _++_}
 use mathlib.Core.Option.{Option, none, some}
-use Prim.Native.Nat.{ℕ, zero, suc}
-use lib.Dec.{eqb, ltb}
+use Prim.Native.Nat.{ℕ, suc}
+use lib.Dec.{eqb}
 use lib.ListN.{length, take, drop, getD}
 use Rattle.wire.specs.Answer.{Answer, result, refused}
 use Rattle.pid.specs.Lengths.{lengthIn}
@@ -12,9 +12,9 @@ use Rattle.server_state.specs.declared.FeatureSupport.the-variants as support
 use Rattle.server_state.specs.State.{countIn}
 use Rattle.client_session.specs.declared.Under.{Under}
 use Rattle.client_session.specs.declared.Under.the-variants as under
-use Rattle.client_session.specs.Session.{Client, client, Known, Served, lent}
+use Rattle.client_session.specs.Session.{Client, client, Served, lent}
 use Rattle.client_session.specs.Start.{initSays, commandSays, queryPidSays, queryPidsSays}
-use Rattle.client_session.specs.Piece.{Progress, awaited, sent, over, complete, Received, pieceLent, failureSays}
+use Rattle.client_session.specs.Piece.{Progress, awaited, sent, over, complete, pieceLent, failureSays}
 use Rattle.client_session.specs.Finish.{finishSays}
 use Rattle.driver.specs.declared.ClientTurn.{ClientTurn}
 use Rattle.driver.specs.Log.{numberBytes, textEntry, flagByte, Turn, noted, answered, Logged, loggedOf}

@@ -5,7 +5,6 @@ use native.Mathlib.Nat.{sub-zero}
 use native.Mathlib.Omega.{arith}
 use lib.ListN.{length}
 use borrow.Author.Needs.{needs}
-use Rattle.client_session.specs.Session.{client}
 use Rattle.driver.specs.Script.{calls, rounds}
 use Rattle.driver.specs.Client.{clientCall, clientTurn, clientAt, clientRun, storedOf}
 use Rattle.driver.proofs.ScriptLaws.{rounds-turn, rounds-end}

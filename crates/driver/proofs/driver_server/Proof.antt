@@ -5,7 +5,6 @@ use native.Mathlib.Nat.{sub-zero}
 use native.Mathlib.Omega.{arith}
 use lib.ListN.{length}
 use borrow.Author.Needs.{needs}
-use Rattle.server_session.specs.Session.{session, freshSession}
 use Rattle.driver.specs.Log.{loggedOf}
 use Rattle.driver.specs.Script.{calls, rounds}
 use Rattle.driver.specs.Server.{serverCall, serverTurn, serverAt, serverRun}

@@ -1,13 +1,11 @@
 -- `driver::client::rare` meets its contract.
 use Rattle.driver.proofs.CallLaws.{with, client-state}
 use Rattle.driver.proofs.LogLaws.{noted-is, answered-is}
-use Rattle.driver.specs.Client.{Stored, startNoted, pieceNoted, rareCall, clientAt}
-use Rattle.driver.specs.Log.{Turn}
+use Rattle.driver.specs.Client.{startNoted, pieceNoted, rareCall, clientAt}
 use Rattle.client_session.specs.Start.{queryPidsSays}
-use Rattle.client_session.specs.Session.{Client, client, lent}
+use Rattle.client_session.specs.Session.{client, lent}
 use lib.ListN.{length, drop}
-use Prim.Native.Nat.{ℕ, suc}
-use mathlib.Core.List.{List}
+use Prim.Native.Nat.{suc}
 use mathlib.Core.Path.{sym, ap, _∙_}
 use borrow.Author.Needs.{needs}
 use Rattle.driver.proofs.client.rare.Statement.{statement}

@@ -11,7 +11,7 @@ use Rattle.client_session.specs.Session.{client, lent}
 use Rattle.client_session.specs.Start.{queryPidSays}
 use Rattle.driver.specs.Script.{calls}
 use Rattle.driver.specs.Client.{Stored, clientCall, clientAt, startNoted, pieceNoted, finishNoted}
-use Rattle.driver.proofs.LogLaws.{noted-is, answered-is, counted-is}
+use Rattle.driver.proofs.LogLaws.{answered-is, counted-is}
 use Rattle.driver.proofs.ScriptLaws.{calls-turn, calls-end}
 use Rattle.driver.proofs.CallLaws.{with, client-rare}
 use Rattle.driver.proofs.client.run.Statement.{statement}

@@ -1,7 +1,7 @@
 -- `driver::server::put_last` meets its contract.
 use Rattle.wire.proofs.ListLaws.{take-cut}
-use mathlib.Core.Path.{_≡_, ap, _∙_}
-use lib.ListN.{length, take, length-take}
+use mathlib.Core.Path.{_≡_}
+use lib.ListN.{length, length-take}
 use native.Mathlib.Omega.{arith}
 use borrow.Author.Needs.{needs}
 use Rattle.driver.proofs.server.put_last.Statement.{statement}
