@@ -148,6 +148,29 @@ fn client_lengths(to: &mut impl Take) {
     }
 }
 
+/// What a byte can count: ids and occurrences of a PID, and the bytes of a length to be learned, each around 255. And answers to ATZ of every size up to 256.
+fn around_255(to: &mut impl Take) {
+    for n in (250..=260).chain([300, 400]) {
+        let ids: String = (0..n).map(|id| format!("{id:03X}02410D\r")).collect();
+        let same = "410D\r".repeat(n);
+        for (framed, lines) in [(true, ids), (false, same)] {
+            to.client(session(framed, vec![asked(Start::Pid(0x0D, None), (lines + "\r>").as_bytes())]));
+        }
+        for framed in [false, true] {
+            let line = |n: usize| format!("{}41FE{}\r", if framed { "7E8FF" } else { "" }, "11".repeat(n));
+            for lines in [line(n), line(n) + &line(3), line(3) + &line(n) + &line(3), line(n) + &line(n + 1)] {
+                let query = || asked(Start::Pid(0xFE, None), format!("{lines}>").as_bytes());
+                to.client(session(framed, vec![query(), query()]));
+            }
+        }
+    }
+    for size in 1..=256 {
+        let mut arrivals = vec![piece(&vec![0xFF; size])];
+        arrivals.extend((0..5).map(|_| piece(b"OK\r\r>")));
+        to.client(ClientCase { framing: true, repeat: true, calls: vec![call(Start::Init, arrivals)] });
+    }
+}
+
 /// A call that is cut off at every point, in every way, between two others like it.
 fn cut_off(to: &mut impl Take, framing: bool, whole: Call) {
     let query = || asked(Start::Pids(vec![0x0C, 0x0D], Some(1)), b"7E806410C1AF80D20\r\r>");
@@ -245,6 +268,7 @@ fn server_lengths(to: &mut impl Take) {
 pub fn every(to: &mut impl Take) {
     queries(to);
     client_lengths(to);
+    around_255(to);
     failures(to);
     server_lengths(to);
     commands(to);
