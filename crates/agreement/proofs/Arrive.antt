@@ -10,14 +10,13 @@ use lib.Seq.{sets}
 use borrow.Author.Tests.{ltb-true, ltb-false}
 use Rattle.wire.specs.Answer.{refused}
 use Rattle.wire.specs.Text.{ascii, has, high}
-use Rattle.wire.proofs.Cases.{by-test}
+use Rattle.wire.proofs.Cases.{by-test, or-none}
 use Rattle.wire.proofs.TextLaws.{has-append, high-append}
 use Rattle.hex.specs.Digits.{hexDigit}
 use Rattle.line_list.specs.Lines.{Line}
 use Rattle.reply.specs.Shape.{chipReply}
 use Rattle.reply.specs.Reply.{replyText}
 use Rattle.reply.proofs.ByteLaws.{replyBody, reply-prompt, body-none, body-prompt}
-use Rattle.server_session.proofs.LineLaws.{or-none}
 use Rattle.client_session.specs.Session.{Client, Said, withUnder}
 use Rattle.client_session.specs.Piece.{Progress, completed, failing, replyIn, pieceSays, stored}
 use Rattle.client_session.specs.Pieces.{Fed, feedOn, fed, joined, Sized}

@@ -10,7 +10,7 @@ use lib.ListN.{length, getD, replicate}
 use borrow.Author.Tests.{leb-false}
 use Rattle.wire.specs.Answer.{result}
 use Rattle.wire.specs.Text.{any, has, high, isSpace, raised}
-use Rattle.server_session.proofs.LineLaws.{or-none}
+use Rattle.wire.proofs.Cases.{or-none}
 use Rattle.hex.specs.Digits.{hexDigit}
 use Rattle.hex.specs.Read.{digit, leading}
 use Rattle.pid.specs.J1979.{j1979}

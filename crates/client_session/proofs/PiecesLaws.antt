@@ -10,7 +10,7 @@ use lib.Seq.{sets, length-sets}
 use Rattle.wire.specs.Answer.{Answer, result, refused}
 use Rattle.wire.specs.Put.{Put}
 use Rattle.wire.specs.Text.{has, high}
-use Rattle.wire.proofs.Cases.{by-test, from-no}
+use Rattle.wire.proofs.Cases.{by-test, from-no, or-none}
 use Rattle.wire.proofs.PutLaws.{put-then}
 use Rattle.wire.proofs.TextLaws.{has-append, high-append}
 use Rattle.client_session.specs.declared.Under.{Under}
@@ -113,14 +113,6 @@ pub record Plainly (body : List ℕ) : Type 0 where
   pub low : high body ≡ false
   pub short : length body < 4096
 
-or-left : (a b : Bool) → (a || b) ≡ false → a ≡ false
-or-left true b e = e
-or-left false b e = refl
-
-or-right : (a b : Bool) → (a || b) ≡ false → b ≡ false
-or-right true b e = from-no (cc)
-or-right false b e = e
-
 no-right : (x y : List ℕ) → x ++ y ≡ [] → y ≡ []
 no-right [] y q = q
 no-right (a ∷ x) y q = from-no (cc)
@@ -131,10 +123,10 @@ unfolding has
 all-of-it [] y body n q h = from-no (cc)
 all-of-it (a ∷ x) y [] n q h = no-right x y (cc)
 all-of-it (a ∷ x) y (b ∷ body) n q h =
-    let first : eqb b 62 ≡ false = or-left (eqb b 62) (has 62 body) n in
+    let first : eqb b 62 ≡ false = or-none (eqb b 62) (has 62 body) n .0 in
     let same : a ≡ b = cc in
     let later : has 62 x ≡ true = rw (same, first) at h in
-    all-of-it x y body (or-right (eqb b 62) (has 62 body) n) (cc) later
+    all-of-it x y body (or-none (eqb b 62) (has 62 body) n .1) (cc) later
 
 has-prompt : (body : List ℕ) → has 62 body ≡ false → has 62 (prompted body) ≡ true
 unfolding has
@@ -170,7 +162,7 @@ module _ (room : ℕ) (c : Client) (store st p : List ℕ) (ps : List (List ℕ)
   fits = omega (arith, ok .short, length-append (st ++ p) (joined ps), length-append st p, length-append body (62 ∷ []), ap length rest)
 
   low : high (st ++ p) ≡ false
-  low = or-left (high (st ++ p)) (high (joined ps)) (sym (high-append (st ++ p) (joined ps)) ∙ ap high rest ∙ low-prompt body (ok .low))
+  low = or-none (high (st ++ p)) (high (joined ps)) (sym (high-append (st ++ p) (joined ps)) ∙ ap high rest ∙ low-prompt body (ok .low)) .0
 
   abbrev step : Said Progress → List ℕ → Fed
   step d s = feedOn (d .answer) (record { said = d; store = s; left = ps }) (fed room (d .next) s ps)

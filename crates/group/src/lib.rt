@@ -39,7 +39,7 @@ pub fn put_group(out: &mut [u8], at: usize, n: usize) -> usize
 
 // The number at position at, if it is at most limit. The part after the first byte has a limit 128 times smaller, so
 // that no number overflows and no long form is followed to its end.
-pub fn read_group(s: &[u8], at: usize, limit: usize) -> GroupRead
+fn read_long(s: &[u8], at: usize, limit: usize) -> GroupRead
     ensures { λ r. ⌜ groupRead r ≡ groupAt limit (now (s .entry)) at ⌝ }
 {
     if s.len() <= at {
@@ -58,7 +58,7 @@ pub fn read_group(s: &[u8], at: usize, limit: usize) -> GroupRead
     if limit < 128 {
         return GroupRead::Malformed;
     }
-    match read_group(s, at + 1, (limit - (low - 128)) / 128) {
+    match read_long(s, at + 1, (limit - (low - 128)) / 128) {
         GroupRead::Malformed => GroupRead::Malformed,
         GroupRead::Number { value, next } => {
             if value == 0 {
@@ -69,5 +69,26 @@ pub fn read_group(s: &[u8], at: usize, limit: usize) -> GroupRead
                 next,
             }
         }
+    }
+}
+
+// The number at position at, if it is at most limit. Nearly all are of one byte, which is read here: a function that calls
+// itself is never part of its caller.
+pub fn read_group(s: &[u8], at: usize, limit: usize) -> GroupRead
+    ensures { λ r. ⌜ groupRead r ≡ groupAt limit (now (s .entry)) at ⌝ }
+{
+    if s.len() <= at {
+        return GroupRead::Malformed;
+    }
+    let low = s[at] as usize;
+    if 128 <= low {
+        return read_long(s, at, limit);
+    }
+    if limit < low {
+        return GroupRead::Malformed;
+    }
+    GroupRead::Number {
+        value: low,
+        next: at + 1,
     }
 }

@@ -12,7 +12,8 @@ use borrow.Author.Tests.{lt-ltb, le-ltb, ltb-true}
 use Rattle.wire.specs.Put.{Put}
 use Rattle.wire.specs.Text.{ascii, any, has}
 use Rattle.wire.proofs.PutLaws.{put-rest, put-nil}
-use Rattle.wire.proofs.Cases.{by-test, below, at-below}
+use Rattle.wire.proofs.Cases.{by-test, unless, below, at-below}
+use Rattle.wire.proofs.TextLaws.{any-none}
 use Rattle.hex.specs.Digits.{hexDigit, hexByte, hexBytes}
 use Rattle.wire.proofs.All.{All, all-append}
 use Rattle.hex.proofs.DigitLaws.{bytes-all, bytes-length, digit-between}
@@ -99,20 +100,12 @@ module _ (P : ℕ → Type 0) (space : P 32) (digit : (d : ℕ) → d < 16 → P
 pub query-within : (pids : List ℕ) (count : ℕ) → count ≤ 256 → All (λ c. (32 ≤ c) × (c ≤ 70)) (queryText pids count)
 query-within pids count h = query-all (λ c. (32 ≤ c) × (c ≤ 70)) (omega arith) (λ d k. (let b = digit-between d k in (omega (arith, b .0), b .1))) pids count h
 
-none-in : (f : ℕ → Bool) (s : List ℕ) → All (λ c. f c ≡ false) s → any f s ≡ false
-none-in f [] a = refl
-none-in f (c ∷ s) a = rw (a .0, none-in f s (a .1))
-
 -- a character that is none of them, by a computed test, is not in a query: no CR, no `>`, no `?`
 pub query-lacks : (x : ℕ) → eqb 32 x ≡ false → T (below 16 (λ d. not (eqb (hexDigit d) x))) → (pids : List ℕ) (count : ℕ) → count ≤ 256 → has x (queryText pids count) ≡ false
 unfolding has
 query-lacks x e t pids count h =
-    none-in (λ c. eqb c x) (queryText pids count)
-    (query-all (λ c. eqb c x ≡ false) e (λ d k. failed (eqb (hexDigit d) x) (at-below 16 (λ d. not (eqb (hexDigit d) x)) t d k)) pids count h)
-  where
-    failed : (t : Bool) → T (not t) → t ≡ false
-    failed true u = absurd u
-    failed false u = refl
+    any-none (λ c. eqb c x) (queryText pids count)
+    (query-all (λ c. eqb c x ≡ false) e (λ d k. unless (eqb (hexDigit d) x) (at-below 16 (λ d. not (eqb (hexDigit d) x)) t d k)) pids count h)
 
 -- ---- bench card 11, without its CR
 pub card-11 : queryText (0x0C ∷ 0x0D ∷ []) 2 ≡ ascii "010C0D 1"

@@ -6,8 +6,8 @@ use Prim.Native.Nat.{ℕ, _<_, _≤_}
 use lib.ListN.{length}
 use lib.Dec.{T, eqb, leb}
 use Rattle.wire.specs.Text.{ascii, any, has, high}
-use Rattle.wire.proofs.Cases.{by-test, from-no, below, at-below}
-use Rattle.wire.proofs.TextLaws.{any-append}
+use Rattle.wire.proofs.Cases.{by-test, from-no, unless, below, at-below}
+use Rattle.wire.proofs.TextLaws.{any-append, any-none}
 use Rattle.client_state.specs.Settings.{lineEnding}
 use Rattle.hex.specs.Digits.{hexDigit, hexByte, hexId}
 use Rattle.wire.proofs.All.{All, all-append}
@@ -80,14 +80,6 @@ line-digits headers l = line-all (λ c. (48 ≤ c) × (c ≤ 70)) digit-between 
 
 -- A test that no digit passes, nor a space, CR, LF or a letter of `NO DATA`: nothing before the prompt passes it.
 module _ (f : ℕ → Bool) where
-  unless : (t : Bool) → T (not t) → t ≡ false
-  unless true n = absurd n
-  unless false n = refl
-
-  any-none : (s : List ℕ) → All (λ c. f c ≡ false) s → any f s ≡ false
-  any-none [] a = refl
-  any-none (c ∷ s) a = rw (a .0, any-none s (a .1))
-
   none-any : (s : List ℕ) → any f s ≡ false → All (λ c. f c ≡ false) s
   none-any [] q = tt
   none-any (c ∷ s) q =
@@ -109,7 +101,7 @@ module _ (f : ℕ → Bool) where
 
     pub body-none : (linefeeds spaces headers : Bool) (ls : List Line) → any f (replyBody linefeeds spaces headers ls) ≡ false
     body-none linefeeds spaces headers ls =
-        any-none (replyBody linefeeds spaces headers ls)
+        any-none f (replyBody linefeeds spaces headers ls)
         (body-all (λ c. f c ≡ false) (λ d h. unless (f (hexDigit d)) (at-below 16 (λ d. not (f (hexDigit d))) digits d h)) spaces (space-none spaces) linefeeds (ending-none linefeeds) (each .1 .1 .1) headers ls)
 
 -- the prompt stands at the end alone

@@ -9,14 +9,10 @@ use lib.Dec.{eqb, leb}
 use lib.ListN.{length, take, drop, getD, set, length-take, drop-of-length-le}
 use lib.Seq.{drop-cons, getD-take, take-suc-set, take-set-lt, drop-set-lt}
 use Rattle.wire.specs.Text.{ascii, begins, any, isSpace, raised}
-use Rattle.wire.proofs.Cases.{from-no}
+use Rattle.wire.proofs.Cases.{from-no, or-none}
 use Rattle.server_session.specs.Bytes.{canonical}
 
 -- Tests
-
-pub or-none : (a b : Bool) → a || b ≡ false → (a ≡ false) × (b ≡ false)
-or-none true b e = from-no (let z : true ≡ false = e in cc)
-or-none false b e = (refl, e)
 
 pub and-false : (a : Bool) → a && false ≡ false
 and-false true = refl

@@ -9,7 +9,7 @@ use lib.ListN.{length, take, length-append}
 use lib.Seq.{sets}
 use borrow.Author.Tests.{le-ltb, ltb-false}
 use Rattle.wire.specs.Answer.{result, refused}
-use Rattle.wire.proofs.Cases.{by-test, from-no}
+use Rattle.wire.proofs.Cases.{by-test, from-no, or-none}
 use Rattle.group.specs.Group.{Read, got, malformed}
 use Rattle.line_list.specs.Lines.{Line, lineList}
 use Rattle.line_list.proofs.StepLaws.{left-end}
@@ -179,10 +179,6 @@ within {d} out left r h e =
     let w : r .written ≡ length (d .text) = ap (λ (x : Served (Unit {0})). x .written) e in
     omega (arith, h .fits)
 
-or-false : (a b : Bool) → (a || b) ≡ false → (a ≡ false) × (b ≡ false)
-or-false true b e = from-no cc
-or-false false b e = (refl, e)
-
 answer-short : (room : ℕ) (s : Session) (ati device : List ℕ) → Short room (answerSays room s ati device)
 unfolding answerSays
 answer-short room s ati device =
@@ -191,7 +187,7 @@ answer-short room s ati device =
     (λ t. short-any (high ati || high device) (λ _. short-number 4 s)
     (λ _. short-any (ltb room 48) (λ _. short-number 6 s)
     (λ f.
-    let k = or-false (ltb 32 (length ati)) (ltb 32 (length device)) t in
+    let k = or-none (ltb 32 (length ati)) (ltb 32 (length device)) t in
     let kind = atKind (s .line) in
     let h = at-short (kindSettings kind (s .state) .linefeeds) ati device kind (ltb-false 32 (length ati) (k .0)) (ltb-false 32 (length device) (k .1)) in
     let free = ltb-false room 48 f in

@@ -13,7 +13,7 @@ use borrow.Author.Tests.{eqb-true, eqb-false}
 use Rattle.wire.specs.Answer.{result}
 use Rattle.wire.specs.Put.{Put}
 use Rattle.wire.specs.Text.{any}
-use Rattle.wire.proofs.Cases.{by-test}
+use Rattle.wire.proofs.Cases.{by-test, or-none}
 use Rattle.wire.proofs.PutLaws.{put-none, put-then, put-whole, put-length, put-inside}
 use Rattle.server_session.specs.declared.Phase.{Phase}
 use Rattle.server_session.specs.declared.ServerSession.{ServerSession}
@@ -23,7 +23,6 @@ use Rattle.server_session.specs.declared.Run.{Run}
 use Rattle.server_session.specs.Session.{Session, session, isReading, Said}
 use Rattle.server_session.specs.Bytes.{withLine, echoes, byteSays, byteAnswer, Heard, bytesSay, ServedBytes, bytesServed, lentBytes}
 use Rattle.server_session.specs.Steps.{Does, goesOn, counted, isSpecial, RunFits, Ran}
-use Rattle.server_session.proofs.LineLaws.{or-none}
 use Rattle.wire.proofs.ListLaws.{take-cut}
 use Rattle.server_session.proofs.ByteLaws.{reading, text-short}
 use Rattle.server_session.proofs.BytesLaws.{after, on-counted, lastOf, bytes-on, bytes-stop, onward-after, echo-append, echo-less, bytes-some}

@@ -1,6 +1,6 @@
 -- Case analysis that keeps the equation, and a test at every number below a bound.
 use mathlib.Core.Path.{_≡_, refl, ap}
-use mathlib.Core.Bool.{Bool, true, false, not, _&&_, cond}
+use mathlib.Core.Bool.{Bool, true, false, not, _&&_, _||_, cond}
 use mathlib.Core.Option.{Option, none, some}
 use Prim.Native.Nat.{ℕ, zero, suc, _<_}
 use lib.Dec.{T, eqb, eqb→eq}
@@ -15,6 +15,16 @@ by-test false f g = g refl
 -- from a contradiction that `cc` finds
 pub from-no {ℓ} : {P : Type ℓ} → _≡_ {A = ℕ} 0 1 → P
 from-no z = absurd (omega arith)
+
+-- neither of two tests is passed
+pub or-none : (a b : Bool) → (a || b) ≡ false → (a ≡ false) × (b ≡ false)
+or-none true b e = from-no cc
+or-none false b e = (refl, e)
+
+-- a test whose contrary is passed
+pub unless : (t : Bool) → T (not t) → t ≡ false
+unless true n = absurd n
+unless false n = refl
 
 -- a test at every number below n, which is computed, and what it says of each
 abbrev pub below : ℕ → (ℕ → Bool) → Bool

@@ -36,6 +36,20 @@ put-room out at x h = record { next = omega arith; bytes = refl }
 pub put-full : (out : List ℕ) (at x : ℕ) → length out ≤ at → Put out at (x ∷ []) at out
 put-full out at x h = record { next = omega arith; bytes = sym (set-out out at x h) }
 
+-- past the end nothing is written
+pub put-past : (out : List ℕ) (at : ℕ) (text : List ℕ) → length out ≤ at → Put out at text at out
+put-past out at text h = record { next = omega arith; bytes = sym (sets-out out at text h) }
+
+-- the turn and the end of a loop that stores the bytes of a text as far as there is room
+pub sets-turn : (out text : List ℕ) (at i : ℕ) → i < length text → sets out (at + i) (drop i text) ≡ sets (set out (at + i) (getD text i 0)) (at + (i + 1)) (drop (i + 1) text)
+sets-turn out text at i h = rw (drop-cons text i 0 h, add-one, add-suc)
+
+pub sets-over : (out text : List ℕ) (at i : ℕ) → i ≡ min (length text) (length out - at) → sets out (at + i) (drop i text) ≡ out
+sets-over out text at i h =
+    by-test (leb (length text) i)
+    (λ e. rw (drop-of-length-le text (leb-true (length text) i e)))
+    (λ e. sets-out out (at + i) (drop i text) (omega (arith, leb-false (length text) i e)))
+
 -- a text, and then another
 pub put-then : {out o₁ o₂ t u : List ℕ} {at a e : ℕ} → Put out at t a o₁ → Put o₁ a u e o₂ → Put out at (t ++ u) e o₂
 put-then {out} {o₁} {o₂} {t} {u} {at} {a} {e} p q =

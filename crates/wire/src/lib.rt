@@ -21,13 +21,16 @@ pub fn put_byte(out: &mut [u8], at: usize, byte: u8) -> usize
 pub fn put(out: &mut [u8], at: usize, text: &[u8]) -> usize
     ensures { λ r. ⌜ Put (now (out .entry)) at (now (text .entry)) r (now (out .exit)) ⌝ }
 {
-    let mut at = at;
+    if out.len() <= at {
+        return at;
+    }
+    let n = at_most(text.len(), out.len() - at);
     let mut i: usize = 0;
-    while i < text.len() {
-        at = put_byte(out, at, text[i]);
+    while i < n {
+        out[at + i] = text[i];
         i += 1;
     }
-    at
+    at + n
 }
 
 // Whether s begins with text.
@@ -57,32 +60,30 @@ pub fn same(s: &[u8], text: &[u8]) -> bool
     begins(s, text)
 }
 
-// Whether the byte stands in s.
+// Whether the byte stands in s. The loop has one way out, so that it takes many bytes in one step of the machine.
 pub fn has(s: &[u8], byte: u8) -> bool
     ensures { λ r. ⌜ r ≡ has byte (now (s .entry)) ⌝ }
 {
+    let mut found = false;
     let mut i = 0;
     while i < s.len() {
-        if s[i] == byte {
-            return true;
-        }
+        found = found | (s[i] == byte);
         i += 1;
     }
-    false
+    found
 }
 
 // Whether a byte of 80 hex or more stands in s.
 pub fn has_high(s: &[u8]) -> bool
     ensures { λ r. ⌜ r ≡ high (now (s .entry)) ⌝ }
 {
+    let mut found = false;
     let mut i = 0;
     while i < s.len() {
-        if 0x80 <= s[i] {
-            return true;
-        }
+        found = found | (0x80 <= s[i]);
         i += 1;
     }
-    false
+    found
 }
 
 // 09 to 0D and 20.

@@ -1,45 +1,68 @@
--- `wire::put` meets its contract. The invariant: what is left of the text, written from here, gives the final buffer.
-use mathlib.Core.Path.{_≡_, refl, sym, _∙_}
+-- `wire::put` meets its contract. The invariant: what is left of the text, stored from here, gives the final buffer.
+use mathlib.Core.Path.{_≡_, refl, sym, ap, _∙_}
+use native.Mathlib.Nat.{add-zero}
 use Prim.Native.Nat.{_+_, _-_, _≤_, min}
 use native.Mathlib.Omega.{arith}
 use lib.Seq.{sets}
 use lib.ListN.{length, drop}
 use borrow.Author.Needs.{needs}
-use Rattle.wire.proofs.PutLaws.{put-step, put-end, put-length}
+use Rattle.wire.proofs.PutLaws.{put-past, sets-turn, sets-over}
 use Rattle.wire.specs.Put.{Put}
 use Rattle.wire.proofs.put.Statement.{statement}
 use Rattle.wire.proofs.put.Tie as tie
 
 abbrev Inv-loop : tie.InvT-loop
-Inv-loop out₀ at text at₀ i₀ out at' i =
-    (i ≤ length text) × (length out ≡ length out₀) × Put out at' (drop i text) (at + min (length text) (length out₀ - at)) (sets out₀ at text)
+Inv-loop out₀ at text n i₀ out i = (i ≤ n) × (n ≡ min (length text) (length out₀ - at)) × (at ≤ length out₀) × (length out ≡ length out₀) × (sets out (at + i) (drop i text) ≡ sets out₀ at text)
 
 abbrev μ-loop : tie.MeasureT-loop
-μ-loop out₀ at text at₀ i₀ out at' i = length text - i
+μ-loop out₀ at text n i₀ out i = n - i
+
+returns : tie.Need-returns Inv-loop μ-loop
+returns c = put-past _ _ _ (c .if1 .taken)
+
+sub-at-most : tie.Need-sub-at-most Inv-loop μ-loop
+sub-at-most c = search needs
+
+at-most-requires : tie.Need-at-most-requires Inv-loop μ-loop
+at-most-requires c κs = search needs
 
 loop-holds : tie.Need-loop-holds Inv-loop μ-loop
-loop-holds c = (omega arith, refl, record { next = refl; bytes = refl })
+loop-holds c = (omega arith, c .at-most .ensures, search needs, refl, rw add-zero)
 
-shared-slice-read-put-byte : tie.Need-shared-slice-read-put-byte Inv-loop μ-loop
-shared-slice-read-put-byte c = search needs
+shared-slice-read-out : tie.Need-shared-slice-read-out Inv-loop μ-loop
+shared-slice-read-out c = search needs
 
-put-byte-requires : tie.Need-put-byte-requires Inv-loop μ-loop
-put-byte-requires c κs = search needs
+add-out : tie.Need-add-out Inv-loop μ-loop
+add-out c = search needs
+
+slice-write-out : tie.Need-slice-write-out Inv-loop μ-loop
+slice-write-out c = search needs
 
 add-i : tie.Need-add-i Inv-loop μ-loop
 add-i c = search needs
 
 loop-less : tie.Need-loop-less Inv-loop μ-loop
-loop-less c = omega (arith, c .before .before .before .before .before .loop-test .taken)
+loop-less c = search needs
 
 loop-again : tie.Need-loop-again Inv-loop μ-loop
-loop-again c = (omega arith, put-length (c .before .before .put-byte .ensures) ∙ c .before .before .before .before .before .before .loop .inv .1, put-step _ _ (c .before .before .before .before .before .loop-test .taken) (c .before .before .before .before .before .before .loop .inv .2) (c .before .before .put-byte .ensures))
+loop-again c =
+    let inv = c .before .before .loop .inv in
+    let a = c .before .before .before .before .before .before .before .args in
+    (search needs, inv .1, inv .2, search needs, sym (sets-turn (c .before .before .loop .out) (a .text .now) (a .at) (c .before .before .loop .i) (omega (arith, c .before .loop-test .taken, inv .1))) ∙ inv .4)
+
+add-result : tie.Need-add-result Inv-loop μ-loop
+add-result c = search needs
 
 same-length : tie.Need-same-length Inv-loop μ-loop
-same-length c = c .before .loop .inv .1
+same-length c = search needs
 
-returns : tie.Need-returns Inv-loop μ-loop
-returns c = let q = put-end _ _ (c .loop-test .left) (c .before .loop .inv .2) in record { next = sym (q .0); bytes = sym (q .1) }
+returns-2 : tie.Need-returns-2 Inv-loop μ-loop
+returns-2 c =
+    let inv = c .before .loop .inv in
+    let a = c .before .before .before .before .before .before .args in
+    let n = c .before .before .at-most .result in
+    let i : c .before .loop .i ≡ n = omega (arith, inv .0, c .loop-test .left) in
+    record { next = ap (λ k. a .at + k) (inv .1); bytes = sym (sets-over (c .before .loop .out) (a .text .now) (a .at) (c .before .loop .i) (i ∙ inv .1 ∙ rw (inv .3))) ∙ inv .4 }
 
 pub put-spec : {M : Type 1} → statement M
 put-spec =
@@ -47,11 +70,16 @@ put-spec =
     (tie.spec
     Inv-loop
     μ-loop
+    returns
+    sub-at-most
+    at-most-requires
     loop-holds
-    shared-slice-read-put-byte
-    put-byte-requires
+    shared-slice-read-out
+    add-out
+    slice-write-out
     add-i
     loop-less
     loop-again
+    add-result
     same-length
-    returns)
+    returns-2)
