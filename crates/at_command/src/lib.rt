@@ -1,4 +1,4 @@
-// The AT dialect (handle_at_command of the Rust's server_session.rs).
+// The AT dialect (handle_at_command of the Rust's server_session.rs). The work is by value; `handle_at_command` is a thin function over settings that are lent.
 ghost use mathlib.Core.Path.{_≡_};
 ghost use lib.ListN.{drop};
 ghost use mathlib.Core.Bool.{true, false, cond};
@@ -156,13 +156,23 @@ fn with_kind(state: ClientState, kind: AtKind) -> ClientState
 }
 
 // An AT command: the settings after it, and what it is, by which it is answered.
-pub fn handle_at_command(state: ClientState, command: &[u8]) -> AtHandled
+pub fn at_handled(state: ClientState, command: &[u8]) -> AtHandled
     ensures { λ r. ⌜ (settings (r .state) ≡ kindSettings (atKind (now (command .entry))) (settings state))
         × (r .kind ≡ atKind (now (command .entry))) ⌝ }
 {
     let kind = at_kind(command);
     let next = with_kind(state, kind);
     AtHandled { state: next, kind }
+}
+
+// The same of settings that are lent: they are updated, and the answer is what the command is.
+pub fn handle_at_command(state: &mut ClientState, command: &[u8]) -> AtKind
+    ensures { λ r. ⌜ (settings (now (state .exit)) ≡ kindSettings (atKind (now (command .entry))) (settings (now (state .entry))))
+        × (r ≡ atKind (now (command .entry))) ⌝ }
+{
+    let kind = at_kind(command);
+    *state = with_kind(*state, kind);
+    kind
 }
 
 // The identity string that answers a command, one of the two lent: the device description for AT@1, else the ATI one.

@@ -127,7 +127,7 @@ impl ServerSession {
     {
         let size = self.command_size();
         let line = self.line;
-        let handled = at_command::handle_at_command(self.state, &line[..size]);
+        let handled = at_command::at_handled(self.state, &line[..size]);
         let state = handled.state;
         let kind = handled.kind;
         let written = put_at_answer(out, kind, ati, device, state.linefeeds_enabled);

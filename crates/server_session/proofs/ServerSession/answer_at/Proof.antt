@@ -14,11 +14,11 @@ command-size-requires c κs = search needs
 array-share-prefix-line : tie.Need-array-share-prefix-line
 array-share-prefix-line c = omega (arith, c .before .command-size .ensures, length-take (c .before .before .before .before .before .args .self .len) (c .before .before .before .before .before .args .self .line))
 
-slice-aggregate-handle-at-command : tie.Need-slice-aggregate-handle-at-command
-slice-aggregate-handle-at-command c = omega (arith, c .before .before .command-size .ensures, length-take (c .before .before .command-size .result) (c .before .before .before .before .before .before .args .self .line), length-take (c .before .before .before .before .before .before .args .self .len) (c .before .before .before .before .before .before .args .self .line))
+slice-aggregate-at-handled : tie.Need-slice-aggregate-at-handled
+slice-aggregate-at-handled c = omega (arith, c .before .before .command-size .ensures, length-take (c .before .before .command-size .result) (c .before .before .before .before .before .before .args .self .line), length-take (c .before .before .before .before .before .before .args .self .len) (c .before .before .before .before .before .before .args .self .line))
 
-handle-at-command-requires : tie.Need-handle-at-command-requires
-handle-at-command-requires c κs = search needs
+at-handled-requires : tie.Need-at-handled-requires
+at-handled-requires c κs = search needs
 
 put-at-answer-requires : tie.Need-put-at-answer-requires
 put-at-answer-requires c κs = search needs
@@ -30,7 +30,7 @@ same-length : tie.Need-same-length
 same-length c = search needs
 
 returns : tie.Need-returns
-returns c = let a = c .before .before .before .before .before .before .before .before .before .before .before .before .before .args in let cut : take (c .before .before .before .before .before .before .before .before .before .command-size .result) (a .self .line) ≡ take (a .self .len) (a .self .line) = ap (λ n. take n (a .self .line)) (c .before .before .before .before .before .before .before .before .before .command-size .ensures) ∙ take-cut (a .self .len) (a .self .line) in let h = rw cut at (c .before .before .before .before .before .before .handle-at-command .ensures) in rw (c .answered .ensures) (at-sent (a .self) (a .ati .now) (a .device .now) (c .before .before .before .before .before .before .handle-at-command .result .state) (c .before .before .before .before .before .before .handle-at-command .result .kind) (h .0) (h .1) (c .before .before .before .before .before .before .before .before .before .before .before .before .before .pre .0) (c .before .before .before .before .before .before .before .before .before .before .before .before .before .pre .1) (c .before .before .before .before .before .before .before .before .before .before .before .before .before .pre .2) (c .before .before .before .put-at-answer .ensures))
+returns c = let a = c .before .before .before .before .before .before .before .before .before .before .before .before .before .args in let cut : take (c .before .before .before .before .before .before .before .before .before .command-size .result) (a .self .line) ≡ take (a .self .len) (a .self .line) = ap (λ n. take n (a .self .line)) (c .before .before .before .before .before .before .before .before .before .command-size .ensures) ∙ take-cut (a .self .len) (a .self .line) in let h = rw cut at (c .before .before .before .before .before .before .at-handled .ensures) in rw (c .answered .ensures) (at-sent (a .self) (a .ati .now) (a .device .now) (c .before .before .before .before .before .before .at-handled .result .state) (c .before .before .before .before .before .before .at-handled .result .kind) (h .0) (h .1) (c .before .before .before .before .before .before .before .before .before .before .before .before .before .pre .0) (c .before .before .before .before .before .before .before .before .before .before .before .before .before .pre .1) (c .before .before .before .before .before .before .before .before .before .before .before .before .before .pre .2) (c .before .before .before .put-at-answer .ensures))
 
 pub answer-at-spec : {M : Type 1} → statement M
 answer-at-spec =
@@ -38,8 +38,8 @@ answer-at-spec =
     (tie.spec
     command-size-requires
     array-share-prefix-line
-    slice-aggregate-handle-at-command
-    handle-at-command-requires
+    slice-aggregate-at-handled
+    at-handled-requires
     put-at-answer-requires
     answered-requires
     same-length
