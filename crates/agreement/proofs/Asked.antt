@@ -34,7 +34,7 @@ use Rattle.script.specs.Script.{Query}
 use Rattle.exchange.specs.Exchange.{Exchanged, exchanged}
 use Rattle.bench.specs.Run as run
 use Rattle.bench.specs.Run.{sendRoom, replyRoom, valuesRoom, Bench, Turn, turn, onward, startSays, Part, partOf, finished, part}
-use Rattle.script.proofs.LinesLaws.{AllBytes}
+use Rattle.line_list.proofs.LinesLaws.{AllBytes}
 use Rattle.agreement.specs.Lines.{GoodLines}
 use Rattle.agreement.specs.Vehicle.{given}
 use Rattle.agreement.specs.Demand.{commandOf}

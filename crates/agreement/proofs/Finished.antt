@@ -25,7 +25,7 @@ use Rattle.client_session.specs.Piece.{replyIn}
 use Rattle.client_session.specs.Finish.{isComplete, finished, finishSays}
 use Rattle.client_session.proofs.FinishLaws.{finish-low}
 use Rattle.bench.specs.Run.{valuesRoom}
-use Rattle.script.proofs.LinesLaws.{AllBytes}
+use Rattle.line_list.proofs.LinesLaws.{AllBytes}
 use Rattle.agreement.specs.Vehicle.{given}
 use Rattle.agreement.specs.Lines.{GoodLines}
 use Rattle.agreement.proofs.ReplyBack.{known, reply-back}

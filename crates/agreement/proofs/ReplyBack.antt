@@ -13,7 +13,7 @@ use Rattle.reply.specs.Reply.{ecuId, furtherHex, dataHex, lineText, replyText}
 use Rattle.reply_lines.specs.Lines.{textLines}
 use Rattle.reply_lines.specs.Decode.{textLine, replyLines}
 use Rattle.reply_lines.proofs.BackLaws.{plain-line, empty-line, prompt-line, framed-plain, framed-back}
-use Rattle.script.proofs.LinesLaws.{AllBytes}
+use Rattle.line_list.proofs.LinesLaws.{AllBytes}
 
 -- a line with its ECU known
 abbrev pub known : Line → Line

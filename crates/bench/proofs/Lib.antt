@@ -1,5 +1,4 @@
 pub mod Worked
-pub mod FitLaws
 mod TurnLaws
 mod OnwardLaws
 mod AskLaws

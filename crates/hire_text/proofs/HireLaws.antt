@@ -12,7 +12,7 @@ use Rattle.report.specs.Report.{partLines, refusedLine}
 use Rattle.bench.specs.declared.BenchRun.{BenchRun}
 use Rattle.bench.specs.declared.RunAnswer.the-variants as answer
 use Rattle.bench.specs.Run.{runSays, runAnswer, Recorded, recorded, lent}
-use Rattle.bench.proofs.FitLaws.{run-fits, run-written}
+use Rattle.hire_text.proofs.FitLaws.{run-fits, run-written}
 use Rattle.hire_text.specs.Hire.{hireRun, hireText}
 
 module _ (s buffer left : List ℕ) (r : BenchRun) (e : recorded r left ≡ lent (runSays true [] (length buffer) s) buffer) where

@@ -1,1 +1,2 @@
+mod FitLaws
 mod HireLaws

@@ -22,8 +22,8 @@ fn put_pids(out: &mut [u8], at: usize, pids: &[u8]) -> usize
     at
 }
 
-// A number in decimal, with no zeros before it.
-fn put_decimal(out: &mut [u8], at: usize, n: u8) -> usize
+// A number in decimal, with no zeros before it, from position at on.
+pub fn put_decimal(out: &mut [u8], at: usize, n: u8) -> usize
     ensures { λ r. ⌜ Put (now (out .entry)) at (decimal n) r (now (out .exit)) ⌝ }
 {
     if n < 10 {

@@ -1,20 +1,15 @@
 -- Laws of lines: what their writers go by, and how long they are.
 use mathlib.Core.Path.{_≡_, refl}
 use mathlib.Core.List.{List, [], _∷_, _++_}
-use Prim.Native.Nat.{ℕ, suc, _+_, _*_, _/_, _%_, _≤_, _<_}
+use Prim.Native.Nat.{ℕ, suc, _+_, _*_, _≤_, _<_}
 use native.Mathlib.Numerals.{add-one}
 use native.Mathlib.Omega.{arith}
-use lib.Dec.{ltb}
 use lib.ListN.{length, drop, getD, drop-of-length-le}
 use lib.Seq.{drop-cons}
-use borrow.Author.Tests.{ltb-true, lt-ltb, le-ltb}
 use Rattle.wire.specs.Put.{Put}
 use Rattle.wire.proofs.PutLaws.{put-rest, put-nil}
-use Rattle.wire.proofs.Cases.{by-test}
 use Rattle.hex.specs.Digits.{hexByte}
-use Rattle.query.specs.Query.{decimal}
 use Rattle.report.specs.Report.{separator, hexLine}
-use Rattle.report.specs.Steps.{digitFrom}
 
 -- what stands before the byte at a position, and after the last
 pub separator-more : (s : List ℕ) (i : ℕ) → i < length s → separator (drop i s) ≡ 32
@@ -38,27 +33,3 @@ module _ {out left : List ℕ} {at r : ℕ} (s : List ℕ) (i : ℕ) (p : Put ou
 pub line-length : (s : List ℕ) → length (hexLine s) ≡ 3 * length s
 line-length [] = refl
 line-length (b ∷ s) = omega (arith, line-length s)
-
--- ---- a number in decimal, digit by digit
-
-pub digit-none : (unit n : ℕ) → n < unit → digitFrom unit n ≡ []
-digit-none unit n h = rw (lt-ltb n unit h)
-
-pub digit-some : (unit n : ℕ) → unit ≤ n → digitFrom unit n ≡ (48 + n / unit % 10) ∷ []
-digit-some unit n h = rw (le-ltb n unit h)
-
-pub decimal-digits : (n : ℕ) → n < 1000 → decimal n ≡ digitFrom 100 n ++ (digitFrom 10 n ++ ((48 + n % 10) ∷ []))
-decimal-digits n h =
-    by-test (ltb n 10)
-    (λ e.
-    let i = ltb-true n 10 e in
-    let one : n % 10 ≡ n = omega arith in
-    rw (e, lt-ltb n 100 (omega arith), one))
-    (λ e.
-    rw e
-    (by-test (ltb n 100)
-    (λ f.
-    let i = ltb-true n 100 f in
-    let ten : n / 10 % 10 ≡ n / 10 = omega arith in
-    rw (f, ten))
-    (λ f. let hundred : n / 100 % 10 ≡ n / 100 = omega arith in rw (f, hundred))))

@@ -6,9 +6,8 @@ ghost use mathlib.Core.Path.{_≡_};
 ghost use Prim.Native.Nat.{_<_};
 ghost use lib.ListN.{drop};
 ghost use Rattle.wire.specs.Put.{Put};
-ghost use Rattle.query.specs.Query.{decimal};
 ghost use Rattle.report.specs.Report.{separator, hexLine, partLines, refusedLine};
-ghost use Rattle.report.specs.Steps.{partEnd, digitFrom};
+ghost use Rattle.report.specs.Steps.{partEnd};
 
 // What stands in a line before the byte at i, or after the last.
 fn separator(bytes: &[u8], i: usize) -> u8
@@ -76,31 +75,11 @@ pub fn put_parts(out: &mut [u8], at: usize, parts: &[u8]) -> usize
     at
 }
 
-// The digit of a number at a unit, unless the number is smaller than the unit.
-fn put_digit(out: &mut [u8], at: usize, number: u8, unit: u8) -> usize
-    requires { ⌜ 0 < unit ⌝ }
-    ensures { λ r. ⌜ Put (now (out .entry)) at (digitFrom unit number) r (now (out .exit)) ⌝ }
-{
-    if number < unit {
-        return at;
-    }
-    wire::put_byte(out, at, 48 + number / unit % 10)
-}
-
-// A number in decimal, with no zeros before it.
-fn put_decimal(out: &mut [u8], at: usize, number: u8) -> usize
-    ensures { λ r. ⌜ Put (now (out .entry)) at (decimal number) r (now (out .exit)) ⌝ }
-{
-    let at = put_digit(out, at, number, 100);
-    let at = put_digit(out, at, number, 10);
-    wire::put_byte(out, at, 48 + number % 10)
-}
-
 // The line that tells the number that stopped a run, from position at on.
 pub fn put_refused(out: &mut [u8], at: usize, number: u8) -> usize
     ensures { λ r. ⌜ Put (now (out .entry)) at (refusedLine number) r (now (out .exit)) ⌝ }
 {
     let at = wire::put(out, at, b"refused ");
-    let at = put_decimal(out, at, number);
+    let at = query::put_decimal(out, at, number);
     wire::put_byte(out, at, b'\n')
 }

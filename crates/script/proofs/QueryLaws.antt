@@ -15,7 +15,7 @@ use Rattle.line_list.specs.Lines.{Line, linesBytes, readLines}
 use Rattle.line_list.proofs.LineLaws.{lines-back}
 use Rattle.script.specs.Script.{Query, query, readPids, readQuery}
 use Rattle.script.specs.Written.{InLimits, queryBytes}
-use Rattle.script.proofs.LinesLaws.{LinesRead, lines-got}
+use Rattle.line_list.proofs.LinesLaws.{LinesRead, lines-got}
 
 -- A query at the front of some bytes: how many PIDs, the PIDs, ECU count+1, how many lines, the lines, and the bytes after them.
 pub record QueryIn (s : List ℕ) (q : Query) (rest : List ℕ) : Type 0 where

@@ -14,7 +14,7 @@ use Rattle.group.proofs.GroupLaws.{then-got, bytes-append}
 use Rattle.line_list.specs.Lines.{linesBytes}
 use Rattle.script.specs.Script.{Query, readQuery, readQueries, queriesOf, script}
 use Rattle.script.specs.Written.{AllInLimits, queryBytes, scriptBytes}
-use Rattle.script.proofs.LinesLaws.{AllBytes, lines-bytes}
+use Rattle.line_list.proofs.LinesLaws.{AllBytes, lines-bytes}
 use Rattle.script.proofs.QueryLaws.{query-got, query-back, query-some, query-limits, query-shorter, query-written}
 use Rattle.script.proofs.StepLaws.{QueryHere}
 

@@ -18,7 +18,7 @@ use Rattle.script.specs.Answers.{queryStep, queryAnswer, stepAnswer, que
 use Rattle.script.specs.declared.ScriptCursor.{ScriptCursor}
 use Rattle.script.specs.declared.QueryStep.{QueryStep}
 use Rattle.script.specs.declared.QueryStep.the-variants as step
-use Rattle.script.proofs.LinesLaws.{lines-got}
+use Rattle.line_list.proofs.LinesLaws.{lines-got}
 use Rattle.script.proofs.QueryLaws.{QueryIn, query-in, query-got, query-flat, query-limits, query-shorter, query-written}
 
 -- What a step finds
