@@ -85,3 +85,12 @@ impl<'a> LineReader<'a> {
         step_text(self.reply, step)
     }
 }
+
+// The text of a reply's first line, nothing where it has none.
+pub fn first_text<'a>(reply: &'a [u8]) -> &'a [u8]
+    ensures { λ r. ⌜ now r ≡ firstLine (textLines (now (reply .entry))) ⌝ }
+{
+    let mut reader = LineReader::new(reply);
+    let step = reader.next_line();
+    reader.text(step)
+}

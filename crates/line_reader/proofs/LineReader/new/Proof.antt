@@ -1,6 +1,5 @@
--- `line_reader::LineReader::new` meets its contract: a walk of its MIR, by hand. A `LineReader` is made of the slice passed and 0, in the result's local.
--- A `&[u8]` is Copy, so what it owns is had twice: once for reply at exit, and once inside the result, beside the facts of at.
--- Assumes nothing.
+-- `line_reader::LineReader::new` meets its contract: a walk of its MIR, by hand.
+-- A reader is made of the slice passed and 0, in the result's local. A `&[u8]` is Copy, so what it owns is had twice: once for reply at exit, and once inside the result, beside the facts of at.
 use mathlib.Core.Path.{refl}
 use Prim.Native.Nat.{ℕ}
 use mathlib.Core.List.{List, [], _∷_}

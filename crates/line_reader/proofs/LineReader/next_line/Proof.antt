@@ -57,10 +57,10 @@ use Rattle.line_reader.proofs.past_step as past-step
 use Rattle.line_reader.proofs.past_step.Symbol as past-step-def
 use Rattle.line_reader.proofs.past_step.Symbol.{name as #line-reader·past-step}
 use Rattle.line_reader.proofs.past_step.Met as past-step-thm
-use Rattle.reply_lines.proofs.next_line as line-at
-use Rattle.reply_lines.proofs.next_line.Symbol as line-at-def
+use Rattle.reply_lines.proofs.next_line as line-from
+use Rattle.reply_lines.proofs.next_line.Symbol as line-from-def
 use Rattle.reply_lines.proofs.next_line.Symbol.{name as #reply-lines·next-line}
-use Rattle.reply_lines.proofs.next_line.Met as line-at-thm
+use Rattle.reply_lines.proofs.next_line.Met as line-from-thm
 use Rattle.line_reader.proofs.LineReader.next_line.Key.{name as #line-reader·LineReader·next-line}
 use Rattle.line_reader.proofs.LineReader.next_line as next-line
 use Rattle.line_reader.proofs.LineReader.next_line.Statement as stated
@@ -85,8 +85,8 @@ module _ {M : Type 1} (𝓤 : URA M) (H : Heap 𝓤) (A : Atoms 𝓤) (at-mem : 
   abbrev PastStep : Contract 𝓤
   PastStep = tripleOf 𝓤 H A past-step.signature (past-step.spec 𝓤 H A at-mem run)
 
-  abbrev LineAt : Contract 𝓤
-  LineAt = tripleOf 𝓤 H A line-at.signature (line-at.spec 𝓤 H A at-mem run)
+  abbrev LineFrom : Contract 𝓤
+  LineFrom = tripleOf 𝓤 H A line-from.signature (line-from.spec 𝓤 H A at-mem run)
 
 module _ {M : Type 1} (𝓤 : URA M) (H : Heap 𝓤) (A : Atoms 𝓤) (W : Given 𝓤 H A) (at-mem : Memory → SProp 𝓤) (run : Routine → Fun 𝓤) (κ κ′ : Lft) (q q′ : Share) (bounds : AllOutlive 2 (next-line.signature .outlives) (κ, (κ′, tt))) (b o : ℕ) (γ : GName) (h : LineReader) where
   abbrev x : RefT LineReader × Unit {0}
@@ -125,19 +125,19 @@ module _ {M : Type 1} (𝓤 : URA M) (H : Heap 𝓤) (A : Atoms 𝓤) (W : Given
   again r fits = qed W (‵ OwnH ∷ []) ∵ owned ! usize (Is usize) (uint-makes 𝓤 H A W w64) r _ (refl, fits) $ move ! (1 ∷ 0 ∷ []) $ by ! (own-put 𝓤 H A W (T.the-type (α κ′)) (T′.the-laws (α κ′)) 1 (h .reply, (h .at, tt)) r (T′.lowered h))
 
   -- the call of `reply_lines::next_line`
-  abbrev to-line-at : LineAt 𝓤 H A at-mem run .Ghost
-  to-line-at = (((κ′, tt), (q′, tt), tt, (h .reply, (h .at, tt)), (v ∷ [], (vint w64 (h .at) ∷ [], tt))), tt)
+  abbrev to-line-from : LineFrom 𝓤 H A at-mem run .Ghost
+  to-line-from = (((κ′, tt), (q′, tt), tt, (h .reply, (h .at, tt)), (v ∷ [], (vint w64 (h .at) ∷ [], tt))), tt)
 
-  goes-line-at : h .at < 2 ^ 64 → ent 𝓤 (sep 𝓤 (sep 𝓤 (A .lft κ′ q′) (sem 𝓤 H A ftrue)) (sem 𝓤 H A OwnS)) (LineAt 𝓤 H A at-mem run .pre to-line-at)
-  goes-line-at fits =
+  goes-line-from : h .at < 2 ^ 64 → ent 𝓤 (sep 𝓤 (sep 𝓤 (A .lft κ′ q′) (sem 𝓤 H A ftrue)) (sem 𝓤 H A OwnS)) (LineFrom 𝓤 H A at-mem run .pre to-line-from)
+  goes-line-from fits =
       qed W ((‵ (flft κ′ q′) ⊛ ‵ ftrue) ∷ ‵ OwnS ∷ []) ∵ nothing ! $ owned ! usize (Is usize) (uint-makes 𝓤 H A W w64) (h .at) _ (refl, fits) $ fjoin ! $
       move ! (2 ∷ 0 ∷ []) $ fjoin ! $ move ! (1 ∷ 0 ∷ []) $ join ! $ frame ! $ done !
 
   abbrev found : Option (List ℕ)
   found = lineFrom (now (h .reply)) (h .at)
 
-  line-at-said : (t : LineStep) → ent 𝓤 (ensured 𝓤 H A line-at.ended (line-at.clauses 𝓤 H A at-mem run) (κ′, tt) (h .reply, (h .at, tt)) tt t) (fact 𝓤 (lineStep t ≡ found))
-  line-at-said t = exE 𝓤 _ (λ ws. snd∗ 𝓤 (sem 𝓤 H A (lasts line-at.ended (κ′, tt) (h .reply, (h .at, tt)) ws)) (fact 𝓤 (lineStep t ≡ found)))
+  line-from-said : (t : LineStep) → ent 𝓤 (ensured 𝓤 H A line-from.ended (line-from.clauses 𝓤 H A at-mem run) (κ′, tt) (h .reply, (h .at, tt)) tt t) (fact 𝓤 (lineStep t ≡ found))
+  line-from-said t = exE 𝓤 _ (λ ws. snd∗ 𝓤 (sem 𝓤 H A (lasts line-from.ended (κ′, tt) (h .reply, (h .at, tt)) ws)) (fact 𝓤 (lineStep t ≡ found)))
 
   -- the call of `past_step`, at the step t with the machine value u
   abbrev to-past-step : LineStep → Val → PastStep 𝓤 H A at-mem run .Ghost
@@ -163,7 +163,7 @@ module _ {M : Type 1} (𝓤 : URA M) (H : Heap 𝓤) (A : Atoms 𝓤) (W : Given
   facts : Is (B κ′) h (T′.lowered h ∷ []) → Holds (hasTy (T′.mir (named 1)) (T′.lowered h)) × WT (T′.lowered h)
   facts was = LL.lawful (T.the-type (α κ′)) (T′.the-laws (α κ′)) 𝓤 H A W .typed h _ was .0
 
-  module _ (C : Calls 𝓤 H) (Λ : Loops 𝓤 H) (fm : FmC 𝓤 H (W .laws) C) (known-past-step : Triple 𝓤 (C #line-reader·past-step) (PastStep 𝓤 H A at-mem run)) (known-line-at : Triple 𝓤 (C #reply-lines·next-line) (LineAt 𝓤 H A at-mem run)) where
+  module _ (C : Calls 𝓤 H) (Λ : Loops 𝓤 H) (fm : FmC 𝓤 H (W .laws) C) (known-past-step : Triple 𝓤 (C #line-reader·past-step) (PastStep 𝓤 H A at-mem run)) (known-line-from : Triple 𝓤 (C #reply-lines·next-line) (LineFrom 𝓤 H A at-mem run)) where
     walk : ent 𝓤 (onEntry 𝓤 H A next-line.signature (κ, (κ′, tt)) (q, (q′, tt)) x at) (WpFn 𝓤 H C Λ code.function (vptr b o ∷ []) Post)
     walk =
         qed W ((‵ (flft κ q) ⊛ ‵ (flft κ′ q′) ⊛ ‵ ftrue) ∷ ‵ (owns (MutRef (named 0) κ (B κ′) ∷ []) x at) ∷ []) ∵ enter ! C Λ code.function (vptr b o ∷ []) _ $
@@ -178,11 +178,11 @@ module _ {M : Type 1} (𝓤 : URA M) (H : Heap 𝓤) (A : Atoms 𝓤) (W : Given
         assigns ! (of-opd ! (load ! (from ! (hop ! (look ! 15 refl) (fld ! refl (stop !)))) (look-in ! 0 (sub ! 1 refl (whole !))))) (from ! (stop !)) (init ! 11 refl (tt, facts was .1 .1 .0)) $
         move ! (1 ∷ []) $ use1 W (‵ OwnH ⊛ ‵ OwnS) slice-of $ split ! $
         -- [what it owns; what reply owns; the struct's cell; the open borrow; obs; auth; 'a's token; true; _5; …]
-        move ! (6 ∷ 1 ∷ []) $ use2 W (raw (LineAt 𝓤 H A at-mem run .pre to-line-at)) (goes-line-at (facts was .1 .1 .0 .fits)) $
+        move ! (6 ∷ 1 ∷ []) $ use2 W (raw (LineFrom 𝓤 H A at-mem run .pre to-line-from)) (goes-line-from (facts was .1 .1 .0 .fits)) $
         -- [what the call asks; what it owns; the struct's cell; the open borrow; obs; auth; true; _5; …; _4; …; _3; …; _2; …]
-        calls-at ! fm (LineAt 𝓤 H A at-mem run) known-line-at to-line-at (and-then ! (load ! (from ! (stop !)) (look ! 13 refl)) (and-then ! (load ! (from ! (stop !)) (look ! 11 refl)) (no-more !))) (λ u.
-        use1 W (later (some (λ (t : LineStep). ((‵ (flft κ′ q′) ⊛ ‵ ftrue) ⊛ ‵ (S.the-row .own t (u ∷ []))) ⊛ raw (ensured 𝓤 H A line-at.ended (line-at.clauses 𝓤 H A at-mem run) (κ′, tt) (h .reply, (h .at, tt)) tt t)))) (id⊢ 𝓤 _) $ await ! tt $ pick ! (λ t.
-        split ! $ move ! (1 ∷ []) $ use1 W (raw (fact 𝓤 (lineStep t ≡ found))) (line-at-said t) $ heard ! (lineStep t ≡ found) (λ e₁. split ! $ move ! (1 ∷ []) $
+        calls-at ! fm (LineFrom 𝓤 H A at-mem run) known-line-from to-line-from (and-then ! (load ! (from ! (stop !)) (look ! 13 refl)) (and-then ! (load ! (from ! (stop !)) (look ! 11 refl)) (no-more !))) (λ u.
+        use1 W (later (some (λ (t : LineStep). ((‵ (flft κ′ q′) ⊛ ‵ ftrue) ⊛ ‵ (S.the-row .own t (u ∷ []))) ⊛ raw (ensured 𝓤 H A line-from.ended (line-from.clauses 𝓤 H A at-mem run) (κ′, tt) (h .reply, (h .at, tt)) tt t)))) (id⊢ 𝓤 _) $ await ! tt $ pick ! (λ t.
+        split ! $ move ! (1 ∷ []) $ use1 W (raw (fact 𝓤 (lineStep t ≡ found))) (line-from-said t) $ heard ! (lineStep t ≡ found) (λ e₁. split ! $ move ! (1 ∷ []) $
         -- [the step; 'a's token; what it owns; the struct's cell; the open borrow; obs; auth; true; _5; …; _4; …; _3; …; _2; …; _1; …; _0; …]
         peeks ! S.the-row (Is S.the-row) (shows 𝓤 H A S.the-row) t (u ∷ []) (λ is.
         land ! (from ! (stop !)) (init ! 10 refl (EL.lawful S.the-type S′.the-laws 𝓤 H A W tt .typed t _ is .0)) $
@@ -205,16 +205,16 @@ module _ {M : Type 1} (𝓤 : URA M) (H : Heap 𝓤) (A : Atoms 𝓤) (W : Given
         keep ! (0 ∷ 1 ∷ 2 ∷ 3 ∷ []) $ by ! (exits r t u is e₁ e₂)))))))))))))))))
 
 module _ {M : Type 1} (𝓤 : URA M) (H : Heap 𝓤) (A : Atoms 𝓤) (W : Given 𝓤 H A) (at-mem : Memory → SProp 𝓤) (run : Routine → Fun 𝓤) where
-  next-line-walks : (C : Calls 𝓤 H) (Λ : Loops 𝓤 H) → FmC 𝓤 H (W .laws) C → Triple 𝓤 (C #line-reader·past-step) (PastStep 𝓤 H A at-mem run) → Triple 𝓤 (C #reply-lines·next-line) (LineAt 𝓤 H A at-mem run)
+  next-line-walks : (C : Calls 𝓤 H) (Λ : Loops 𝓤 H) → FmC 𝓤 H (W .laws) C → Triple 𝓤 (C #line-reader·past-step) (PastStep 𝓤 H A at-mem run) → Triple 𝓤 (C #reply-lines·next-line) (LineFrom 𝓤 H A at-mem run)
       → Walks 𝓤 H A next-line.ended stayed (WpFn 𝓤 H C Λ code.function) (next-line.clauses 𝓤 H A at-mem run)
-  next-line-walks C Λ fm known-past-step known-line-at = walked 𝓤 H A next-line.ended stayed (next-line.clauses 𝓤 H A at-mem run) (WpFn 𝓤 H C Λ code.function) (λ κs. (ptr-vals, tt)) (λ κs. (mut-tells (named 0) (κs .0) (B (κs .1 .0)), tt))
-      (λ κs qs bounds a _ are. via 𝓤 _ (fst∗ 𝓤 _ (emp 𝓤)) (walk 𝓤 H A W at-mem run (κs .0) (κs .1 .0) (qs .0) (qs .1 .0) bounds (a .0 .ptr .0) (a .0 .ptr .1) (a .0 .name) (a .0 .now) C Λ fm known-past-step known-line-at))
+  next-line-walks C Λ fm known-past-step known-line-from = walked 𝓤 H A next-line.ended stayed (next-line.clauses 𝓤 H A at-mem run) (WpFn 𝓤 H C Λ code.function) (λ κs. (ptr-vals, tt)) (λ κs. (mut-tells (named 0) (κs .0) (B (κs .1 .0)), tt))
+      (λ κs qs bounds a _ are. via 𝓤 _ (fst∗ 𝓤 _ (emp 𝓤)) (walk 𝓤 H A W at-mem run (κs .0) (κs .1 .0) (qs .0) (qs .1 .0) bounds (a .0 .ptr .0) (a .0 .ptr .1) (a .0 .name) (a .0 .now) C Λ fm known-past-step known-line-from))
 
 next-line-meets : {M : Type 1} (𝓤 : URA M) (H : Heap 𝓤) (A : Atoms 𝓤) (W : Given 𝓤 H A) (at-mem : Memory → SProp 𝓤) (run : Routine → Fun 𝓤) (𝓣 : Tables 𝓤 H)
-    → Triple 𝓤 (𝓣 .C #line-reader·past-step) (PastStep 𝓤 H A at-mem run) → Triple 𝓤 (𝓣 .C #reply-lines·next-line) (LineAt 𝓤 H A at-mem run)
+    → Triple 𝓤 (𝓣 .C #line-reader·past-step) (PastStep 𝓤 H A at-mem run) → Triple 𝓤 (𝓣 .C #reply-lines·next-line) (LineFrom 𝓤 H A at-mem run)
     → Meets 𝓤 H A next-line.signature (WpFn 𝓤 H (𝓣 .C) (𝓣 .Λ) code.function) (next-line.spec 𝓤 H A at-mem run)
-next-line-meets 𝓤 H A W at-mem run 𝓣 known-past-step known-line-at = walk-meets 𝓤 H A next-line.ended stayed W (goes-ref 𝓤 H A W 2 0 tt behind, tt) (next-line.clauses 𝓤 H A at-mem run) (WpFn 𝓤 H (𝓣 .C) (𝓣 .Λ) code.function) (WpFn-mono 𝓤 H (W .laws) 𝓣 code.function)
-    (next-line-walks 𝓤 H A W at-mem run (𝓣 .C) (𝓣 .Λ) (fmOf 𝓤 H (W .laws) 𝓣) known-past-step known-line-at)
+next-line-meets 𝓤 H A W at-mem run 𝓣 known-past-step known-line-from = walk-meets 𝓤 H A next-line.ended stayed W (goes-ref 𝓤 H A W 2 0 tt behind, tt) (next-line.clauses 𝓤 H A at-mem run) (WpFn 𝓤 H (𝓣 .C) (𝓣 .Λ) code.function) (WpFn-mono 𝓤 H (W .laws) 𝓣 code.function)
+    (next-line-walks 𝓤 H A W at-mem run (𝓣 .C) (𝓣 .Λ) (fmOf 𝓤 H (W .laws) 𝓣) known-past-step known-line-from)
 
 pub next-line-spec : {M : Type 1} → stated.statement M
 unfolding code.routine tablesOf
@@ -223,4 +223,4 @@ next-line-spec 𝓤 H 𝓜 𝓖 𝓡 =
     (tables 𝓤 H 𝓜 𝓡 code.env .C) (tables 𝓤 H 𝓜 𝓡 code.env .Λ) #line-reader·LineReader·next-line code.function (code.unfolded 𝓤 H 𝓜 𝓡)
     (next-line-meets 𝓤 H (𝓖 .A) (givenOf 𝓤 H 𝓜 𝓖) (𝓜 .mem) (𝓡 .run) (tablesOf 𝓤 H 𝓜 (tables 𝓤 H 𝓜 𝓡 code.env))
     (cited 𝓤 H (PastStep 𝓤 H (𝓖 .A) (𝓜 .mem) (𝓡 .run)) 𝓜 𝓡 code.env #line-reader·past-step past-step-def.routine code.calls-line-reader·past-step (past-step-thm.met 𝓤 H 𝓜 𝓖 𝓡))
-    (cited 𝓤 H (LineAt 𝓤 H (𝓖 .A) (𝓜 .mem) (𝓡 .run)) 𝓜 𝓡 code.env #reply-lines·next-line line-at-def.routine code.calls-reply-lines·next-line (line-at-thm.met 𝓤 H 𝓜 𝓖 𝓡)))
+    (cited 𝓤 H (LineFrom 𝓤 H (𝓖 .A) (𝓜 .mem) (𝓡 .run)) 𝓜 𝓡 code.env #reply-lines·next-line line-from-def.routine code.calls-reply-lines·next-line (line-from-thm.met 𝓤 H 𝓜 𝓖 𝓡)))
