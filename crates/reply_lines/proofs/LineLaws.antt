@@ -26,7 +26,8 @@ pub record LineHere (reply : List ℕ) (at start end next : ℕ) : Type 0 where
   pub within : next ≤ length reply
   pub reads : textLines (drop at reply) ≡ take (end - start) (drop start reply) ∷ textLines (drop next reply)
 
-abbrev Found : List ℕ → ℕ → Option (List ℕ) → Type 0
+-- what a step says of the lines that are left
+abbrev pub Found : List ℕ → ℕ → Option (List ℕ) → Type 0
 Found reply at none = textLines (drop at reply) ≡ []
 Found reply at (some p) = LineHere reply at (getD p 0 0) (getD p 1 0) (getD p 2 0)
 
@@ -73,17 +74,20 @@ found (suc n) reply at h =
     (λ e. found-turn reply at (ltb-true at (length reply) e) (λ next k. found n reply next (omega (arith, ltb-true at (length reply) e))))
     (λ e. let k = ltb-false at (length reply) e in rw (from-end reply at k) (text-end reply at k))
 
+pub line-found : (reply : List ℕ) (at : ℕ) → Found reply at (lineFrom reply at)
+line-found reply at = found (length reply - at) reply at (omega arith)
+
 -- an answer with a line: its bounds, and the line with those that are left
 pub step-line : (reply : List ℕ) (at : ℕ) {r : LineStep} {start end next : ℕ} → lineStep r ≡ lineFrom reply at → r ≡ step.Line start end next → LineHere reply at start end next
 step-line reply at {r} {start} {end} {next} q e =
     let p : lineFrom reply at ≡ some (start ∷ end ∷ next ∷ []) = sym q ∙ ap lineStep e in
-    rw p at (found (length reply - at) reply at (omega arith))
+    rw p at (line-found reply at)
 
 -- an answer with none: no line is left
 pub step-end : (reply : List ℕ) (at : ℕ) {r : LineStep} → lineStep r ≡ lineFrom reply at → r ≡ step.End → textLines (drop at reply) ≡ []
 step-end reply at {r} q e =
     let p : lineFrom reply at ≡ none = sym q ∙ ap lineStep e in
-    rw p at (found (length reply - at) reply at (omega arith))
+    rw p at (line-found reply at)
 
 -- ---- the same of the lines decoded
 

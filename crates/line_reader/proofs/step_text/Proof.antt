@@ -1,0 +1,31 @@
+-- `line_reader::step_text` meets its contract.
+use mathlib.Core.Path.{sym, ap, _∙_}
+use Rattle.reply_lines.specs.Answers.{lineStep}
+use Rattle.reply_lines.specs.declared.LineStep.{LineStep}
+use Rattle.line_reader.specs.Reader.{stepText}
+use borrow.Author.Needs.{needs}
+use Rattle.line_reader.proofs.step_text.Statement.{statement}
+use Rattle.line_reader.proofs.step_text.Tie as tie
+
+enum-known-step : tie.Need-enum-known-step
+enum-known-step c = search needs
+
+part-requires : tie.Need-part-requires
+part-requires c κs = search needs
+
+enum-told : tie.Need-enum-told
+enum-told c = search needs
+
+slice-aggregate-result : tie.Need-slice-aggregate-result
+slice-aggregate-result c = search needs
+
+returns : tie.Need-returns
+returns c = c .part .ensures ∙ ap (λ (s : LineStep). stepText (c .before .before .before .before .before .args .reply .now) (lineStep s)) (sym (c .before .before .step .given .1))
+
+returns-2 : tie.Need-returns-2
+returns-2 c = search needs
+
+pub step-text-spec : {M : Type 1} → statement M
+step-text-spec =
+    tie.close
+    (tie.spec enum-known-step part-requires enum-told slice-aggregate-result returns returns-2)
