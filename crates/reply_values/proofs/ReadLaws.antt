@@ -2,7 +2,7 @@
 use mathlib.Core.Path.{_≡_, refl, sym, ap, subst, _∙_}
 use mathlib.Core.Bool.{Bool}
 use mathlib.Core.List.{List, [], _∷_, map}
-use Prim.Native.Nat.{ℕ, _+_, _≤_, _<_, min}
+use Prim.Native.Nat.{ℕ, _+_, _*_, _≤_, _<_, min}
 use native.Mathlib.Omega.{arith}
 use lib.Dec.{leb}
 use lib.ListN.{length, take, length-take}
@@ -57,8 +57,8 @@ reply-known framing reply = known (textLines reply) where
   known [] = tt
   known (s ∷ ss) = (line-ecu framing s, known ss)
 
--- the values of a text of at most 4,096 bytes, written into a store of 12,291
-module _ (framing : Bool) (text lengths : List ℕ) (short : length text ≤ 4096) {store left : List ℕ} (room : length store ≡ 12291) {size : ℕ}
+-- the values of a text of at most 4,096 bytes, written into a store with three bytes for each of them and three more
+module _ (framing : Bool) (text lengths : List ℕ) (short : length text ≤ 4096) {store left : List ℕ} (room : 3 * length text + 3 ≤ length store) {size : ℕ}
     (p : Put store 0 (valuesBytes (valuesOf lengths (replyLines framing text))) size left) where
   fits : 0 + length (valuesBytes (valuesOf lengths (replyLines framing text))) ≤ length store
   fits = omega (arith, reply-size lengths framing text short)
@@ -78,38 +78,40 @@ module _ (framing : Bool) (text lengths : List ℕ) (short : length text ≤ 409
   pub stored-back : take size left ≡ valuesBytes (valuesIn (take size left))
   stored-back = stored-front ∙ ap valuesBytes (sym stored-values)
 
--- the answer to a query, by what the store holds
-module _ (q : Asked) (reply : List ℕ) {end : ℕ} (cut : end ≡ min (length reply) 4096) {after : List ℕ}
-    (learned : after ≡ lengthsAfter (q .several) (q .pids) (q .lengths) (replyLines (q .framing) (take end reply))) {store left : List ℕ} (room : length store ≡ 12291)
-    {size : ℕ} (p : Put store 0 (valuesBytes (valuesOf after (replyLines (q .framing) (take end reply)))) size left) where
-  abbrev text : List ℕ
-  text = take end reply
+-- a reply is read as its first 4,096 bytes are
+pub read-cut : (q : Asked) (reply out : List ℕ) {end : ℕ} → end ≡ min (length reply) 4096 → readReply q (take end reply) out ≡ readReply q reply out
+unfolding readReply
+read-cut q reply out {end} h = ap (λ t. readLines q (replyLines (q .framing) t) out) (take-all 4096 (take end reply) (cut-short reply h) ∙ cut-same reply h)
 
+-- the answer to a query, by what the store holds
+module _ (q : Asked) (text : List ℕ) (short : length text ≤ 4096) {after : List ℕ}
+    (learned : after ≡ lengthsAfter (q .several) (q .pids) (q .lengths) (replyLines (q .framing) text)) {store left : List ℕ} (room : 3 * length text + 3 ≤ length store)
+    {size : ℕ} (p : Put store 0 (valuesBytes (valuesOf after (replyLines (q .framing) text))) size left) where
   abbrev found : List Value
   found = valuesIn (take size left)
 
   same : found ≡ valuesOf after (replyLines (q .framing) text)
-  same = stored-values (q .framing) text after (cut-short reply cut) room p
+  same = stored-values (q .framing) text after short room p
 
   found-size : size ≡ length (valuesBytes (answerOrder found))
-  found-size = stored-size (q .framing) text after (cut-short reply cut) room p ∙ ap (λ vs. length (valuesBytes vs)) (sym same) ∙ sym (order-size found)
+  found-size = stored-size (q .framing) text after short room p ∙ ap (λ vs. length (valuesBytes vs)) (sym same) ∙ sym (order-size found)
 
-  read-found : (out : List ℕ) → readReply q reply out ≡ readValues q after found out
+  read-found : (out : List ℕ) → readReply q text out ≡ readValues q after found out
   unfolding readReply
   read-found out =
-      ap (λ t. readLines q (replyLines (q .framing) t) out) (sym (cut-same reply cut))
+      ap (λ t. readLines q (replyLines (q .framing) t) out) (take-all 4096 text short)
       ∙ ap (λ ls. readValues q ls (valuesOf ls (replyLines (q .framing) text)) out) (sym learned)
       ∙ ap (λ vs. readValues q after vs out) (sym same)
 
-  pub read-small : {out : List ℕ} → length out < size → record { answer = refused 6; lengths = q .lengths; counts = q .counts; out = out } ≡ readReply q reply out
+  pub read-small : {out : List ℕ} → length out < size → record { answer = refused 6; lengths = q .lengths; counts = q .counts; out = out } ≡ readReply q text out
   read-small {out} h = sym (read-found out ∙ rw (lt-ltb (length out) (length (valuesBytes (answerOrder found))) (omega (arith, found-size))))
 
   pub read-whole : {out o₁ counts : List ℕ} {count written given : ℕ} → size ≤ length out → count ≡ length found → given ≡ givenPids (q .pids) found →
       counts ≡ learnCounts (q .framing) 0 (q .counts) found → Put out 0 (valuesBytes (answerOrder found)) written o₁ →
-      record { answer = result (count ∷ written ∷ given ∷ []); lengths = after; counts = counts; out = o₁ } ≡ readReply q reply out
+      record { answer = result (count ∷ written ∷ given ∷ []); lengths = after; counts = counts; out = o₁ } ≡ readReply q text out
   read-whole {out} {o₁} {counts} {count} {written} {given} h c g l w =
-      let text = valuesBytes (answerOrder found) in
-      let all : written ≡ length text = let e = put-whole w (omega (arith, found-size)) in omega arith in
-      let fits = le-ltb (length out) (length text) (omega (arith, found-size)) in
+      let given = valuesBytes (answerOrder found) in
+      let all : written ≡ length given = let e = put-whole w (omega (arith, found-size)) in omega arith in
+      let fits = le-ltb (length out) (length given) (omega (arith, found-size)) in
       (λ i. record { answer = result (c i ∷ all i ∷ g i ∷ []); lengths = after; counts = l i; out = w .bytes i })
       ∙ sym (read-found out ∙ rw fits)

@@ -7,4 +7,3 @@ use Rattle.report.specs.Report.{afterPart}
 -- where the part at a position ends
 unfoldable pub partEnd : List ℕ → ℕ → ℕ
 partEnd s at = length s - length (afterPart (drop at s))
-
