@@ -14,7 +14,6 @@ use Rattle.wire.proofs.Cases.{by-test, or-none}
 use Rattle.wire.proofs.TextLaws.{has-append, high-append}
 use Rattle.hex.specs.Digits.{hexDigit}
 use Rattle.line_list.specs.Lines.{Line}
-use Rattle.reply.specs.Shape.{chipReply}
 use Rattle.reply.specs.Reply.{replyText}
 use Rattle.reply.proofs.ByteLaws.{replyBody, reply-prompt, body-none, body-prompt}
 use Rattle.client_session.specs.Session.{Client, Said, withUnder}
@@ -135,17 +134,8 @@ pub question-plainly : Plainly (ascii "?\r\r")
 unfolding has high
 question-plainly = record { prompt = refl; low = refl; short = omega arith }
 
-pub question-in : has 63 (chipReply false (ascii "?" ∷ [])) ≡ true
-unfolding has
-question-in = refl
-
--- so a reply to lines, or to none, completes when it has at most 4,096 bytes, and gets 8 when it has more
+-- and a reply to lines, or to none, gets 8 when it has more than 4,096 bytes
 module _ (c : Client) (store ks : List ℕ) (w : Awaiting sendRoom c store []) (ls : List Line) where
-  pub reply-arrives : length (replyText false false true ls) ≤ 4096 →
-      (delivered sendRoom c store ks (replyText false false true ls) .said ≡ completed (c .under) c (replyText false false true ls)) ×
-      (delivered sendRoom c store ks (replyText false false true ls) .store ≡ sets store 0 (replyText false false true ls))
-  reply-arrives h = rw (reply-prompt false false true ls) (arrives c store ks (replyBody false false true ls) w (plainly ls h))
-
   pub reply-overflows : 4096 < length (replyText false false true ls) → delivered sendRoom c store ks (replyText false false true ls) .said .answer ≡ refused 8
   reply-overflows h =
       rw (reply-prompt false false true ls)

@@ -13,7 +13,6 @@ use Rattle.wire.specs.Answer.{Answer, result, refused}
 use Rattle.wire.specs.Text.{has, high}
 use Rattle.wire.proofs.Cases.{by-test, from-no}
 use Rattle.wire.proofs.ListLaws.{take-cut}
-use Rattle.query_text.proofs.KeptLaws.{text-short}
 use Rattle.client_session.specs.declared.Under.{Under}
 use Rattle.client_session.specs.declared.Under.the-variants as under
 use Rattle.client_session.specs.declared.PieceAnswer.the-variants.{Awaited}
@@ -24,7 +23,6 @@ use Rattle.client_session.specs.Piece.{Progress, awaited, sent, over, complete,
 use Rattle.client_session.specs.Piece as P
 use Rattle.client_session.specs.Pieces.{Fed, feedOn, fed}
 use Rattle.client_session.proofs.PieceLaws.{piece-fits}
-use Rattle.exchange.specs.declared.Delivery.{Delivery}
 use Rattle.exchange.specs.Deliver.{pieceSize, nextSize, lengthsLeft, pieces, Delivered, delivered, Received, deliveryReceived, receiving}
 use Rattle.exchange.specs.Steps.{awaits}
 use Rattle.exchange.proofs.PiecesLaws.{pieces-none, pieces-first}
@@ -275,9 +273,3 @@ fed-fits room c store (p ∷ ps) h =
 pub delivered-fits : (room : ℕ) (c : Client) (store ks r : List ℕ) → length (c .query .text) ≤ 74 → length (delivered room c store ks r .said .text) ≤ room
 unfolding delivered
 delivered-fits room c store ks r h = fed-fits room c store (pieces ks r) h
-
-pub delivery-written : (s : ClientSession) (store ks r out lengths store₁ out₁ : List ℕ) (step : Delivery) → length (s .query .bytes) ≡ 18 →
-    deliveryReceived lengths step store₁ out₁ ≡ receiving (delivered (length out) (client s) store ks r) out → step .written ≤ length out
-delivery-written s store ks r out lengths store₁ out₁ step h e =
-    let w : step .written ≡ length (delivered (length out) (client s) store ks r .said .text) = ap (λ (x : Received). x .served .written) e in
-    omega (arith, delivered-fits (length out) (client s) store ks r (omega (arith, text-short (s .query) h)))

@@ -1,7 +1,7 @@
 -- Laws of the digits written: they read back, they are as many as the width says, and nothing else is among them.
 use mathlib.Core.Path.{_≡_, refl, sym, ap, _∙_}
 use mathlib.Core.List.{List, [], _∷_, _++_}
-use mathlib.Core.Option.{Option, none, some}
+use mathlib.Core.Option.{Option, some}
 use Prim.Native.Nat.{ℕ, zero, suc, _+_, _*_, _/_, _%_, _^_, _≤_, _<_}
 use native.Mathlib.Nat.{pow-succ', one-le-pow, mod-lt, mul-assoc, div-add-mod, mul-add-mod-self-left, mod-eq-of-lt}
 use native.Mathlib.Omega.{arith}
@@ -10,7 +10,7 @@ use lib.ListN.{length, length-append}
 use borrow.Author.Tests.{ltb-true}
 use Rattle.wire.specs.Put.{Put}
 use Rattle.wire.proofs.PutLaws.{put-then}
-use Rattle.wire.proofs.Cases.{by-test, from-no, at-below, holds, held}
+use Rattle.wire.proofs.Cases.{by-test, at-below, holds, held}
 use Rattle.wire.proofs.All.{All, all-append}
 use Rattle.hex.specs.Read.{digit, leading, shifted, digitsAfter, hexNumber, pairBytes}
 use Rattle.hex.specs.Digits.{hexDigit, hexDigits, hexByte, hexId, hexBytes}
@@ -31,10 +31,6 @@ leading-back d h = held d (leading (hexDigit d)) (at-below 16 (λ d. holds d (le
 pub digit-between : (d : ℕ) → d < 16 → (48 ≤ hexDigit d) × (hexDigit d ≤ 70)
 unfolding hexDigit
 digit-between d h = by-test (ltb d 10) (λ e. let l = ltb-true d 10 e in rw e (omega arith)) (λ e. rw e (omega arith))
-
--- and a character that is no digit is never written: CR, a space, `>` or `?` (the last two lie between 9 and A)
-pub digit-only : (d c : ℕ) → d < 16 → digit c ≡ none → hexDigit d ≡ c → ⊥
-digit-only d c h bad e = from-no (let back : digit c ≡ some d = rw e at (digit-back d h) in cc)
 
 -- ---- the digits of a number, of any width
 

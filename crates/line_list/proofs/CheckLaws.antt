@@ -11,7 +11,6 @@ use Rattle.line_list.specs.Lines.{Line, line, readLine, readAllLines, li
 use Rattle.line_list.specs.Answers.{linesCheck, countAnswer, linesIn}
 use Rattle.line_list.specs.declared.LinesCheck.{LinesCheck}
 use Rattle.line_list.specs.declared.LinesCheck.the-variants as check
-use Rattle.line_list.proofs.LineLaws.{list-got}
 use Rattle.line_list.proofs.StepLaws.{LineHere, left-end, left-line, left-none, left-full}
 
 -- the answer when n lines have been counted, and the others are read as said
@@ -57,12 +56,6 @@ of-count (got ls rest) n q = (ls, rest, refl, cc)
 of-refused : (g : Read (List Line)) → countAnswer g ≡ refused 5 → g ≡ malformed
 of-refused malformed q = refl
 of-refused (got ls rest) q = from-no cc
-
-pub check-lines : (s : List ℕ) {r : LinesCheck} {n : ℕ} → linesCheck r ≡ linesIn s → r ≡ check.Lines n → (ls : List Line) × (lineList s ≡ got ls []) × (length ls ≡ n)
-unfolding linesIn
-check-lines s {r} {n} q d =
-    let (ls, rest, g, e) = of-count (lineList s) n (sym q ∙ ap linesCheck d) in
-    (ls, g ∙ ap (got ls) (list-got s ls rest g .ends), e)
 
 pub check-none : (s : List ℕ) {r : LinesCheck} → linesCheck r ≡ linesIn s → r ≡ check.Malformed → lineList s ≡ malformed
 unfolding linesIn

@@ -1,19 +1,17 @@
 -- Laws of a query's text: what its writers go by, how long it is, and which characters it has.
-use mathlib.Core.Path.{_≡_, refl}
-use mathlib.Core.Bool.{Bool, true, false, not}
+use mathlib.Core.Path.{_≡_}
 use mathlib.Core.List.{List, [], _∷_, _++_}
 use Prim.Native.Nat.{ℕ, zero, suc, _+_, _*_, _/_, _%_, _≤_, _<_}
 use native.Mathlib.Numerals.{add-one}
 use native.Mathlib.Omega.{arith}
-use lib.Dec.{T, eqb, ltb}
+use lib.Dec.{ltb}
 use lib.ListN.{length, drop, getD, length-append, drop-of-length-le}
 use lib.Seq.{drop-cons}
 use borrow.Author.Tests.{lt-ltb, le-ltb, ltb-true}
 use Rattle.wire.specs.Put.{Put}
-use Rattle.wire.specs.Text.{ascii, any, has}
+use Rattle.wire.specs.Text.{has}
 use Rattle.wire.proofs.PutLaws.{put-rest, put-nil}
-use Rattle.wire.proofs.Cases.{by-test, unless, below, at-below}
-use Rattle.wire.proofs.TextLaws.{any-none}
+use Rattle.wire.proofs.Cases.{by-test}
 use Rattle.hex.specs.Digits.{hexDigit, hexByte, hexBytes}
 use Rattle.wire.proofs.All.{All, all-append}
 use Rattle.hex.proofs.DigitLaws.{bytes-all, bytes-length, digit-between}
@@ -99,15 +97,3 @@ module _ (P : ℕ → Type 0) (space : P 32) (digit : (d : ℕ) → d < 16 → P
 -- so each lies between 20 and 46 hex
 pub query-within : (pids : List ℕ) (count : ℕ) → count ≤ 256 → All (λ c. (32 ≤ c) × (c ≤ 70)) (queryText pids count)
 query-within pids count h = query-all (λ c. (32 ≤ c) × (c ≤ 70)) (omega arith) (λ d k. (let b = digit-between d k in (omega (arith, b .0), b .1))) pids count h
-
--- a character that is none of them, by a computed test, is not in a query: no CR, no `>`, no `?`
-pub query-lacks : (x : ℕ) → eqb 32 x ≡ false → T (below 16 (λ d. not (eqb (hexDigit d) x))) → (pids : List ℕ) (count : ℕ) → count ≤ 256 → has x (queryText pids count) ≡ false
-unfolding has
-query-lacks x e t pids count h =
-    any-none (λ c. eqb c x) (queryText pids count)
-    (query-all (λ c. eqb c x ≡ false) e (λ d k. unless (eqb (hexDigit d) x) (at-below 16 (λ d. not (eqb (hexDigit d) x)) t d k)) pids count h)
-
--- ---- bench card 11, without its CR
-pub card-11 : queryText (0x0C ∷ 0x0D ∷ []) 2 ≡ ascii "010C0D 1"
-unfolding queryText hexDigit
-card-11 = refl

@@ -2,7 +2,7 @@
 use mathlib.Core.Path.{_≡_, refl, ap, _∙_}
 use mathlib.Core.Bool.{Bool, true, false, not, cond}
 use mathlib.Core.List.{List, [], _∷_, _++_, map, append-assoc}
-use Prim.Native.Nat.{ℕ, _<_, _≤_}
+use Prim.Native.Nat.{ℕ, _<_}
 use lib.ListN.{length}
 use lib.Dec.{T, eqb, leb}
 use Rattle.wire.specs.Text.{ascii, any, has, high}
@@ -11,7 +11,7 @@ use Rattle.wire.proofs.TextLaws.{any-append, any-none}
 use Rattle.client_state.specs.Settings.{lineEnding}
 use Rattle.hex.specs.Digits.{hexDigit, hexByte, hexId}
 use Rattle.wire.proofs.All.{All, all-append}
-use Rattle.hex.proofs.DigitLaws.{digit-between, digits-all}
+use Rattle.hex.proofs.DigitLaws.{digits-all}
 use Rattle.line_list.specs.Lines.{Line}
 use Rattle.reply.specs.Shape.{chipReply}
 use Rattle.reply.specs.Reply.{ecuId, spaceIf, furtherHex, dataHex, header, lineText, replyLines, replyText}
@@ -73,10 +73,6 @@ module _ (P : ℕ → Type 0) (digit : (d : ℕ) → d < 16 → P (hexDigit d)) 
         all-append P (ascii "NO DATA") (lineEnding linefeeds ++ lineEnding linefeeds) nothing
         (all-append P (lineEnding linefeeds) (lineEnding linefeeds) ending ending)
     body-all headers (l ∷ ls) = lines-all headers (l ∷ ls)
-
--- without spaces a line is capital hex digits alone
-pub line-digits : (headers : Bool) (l : Line) → All (λ c. (48 ≤ c) × (c ≤ 70)) (lineText false headers l)
-line-digits headers l = line-all (λ c. (48 ≤ c) × (c ≤ 70)) digit-between false tt headers l
 
 -- A test that no digit passes, nor a space, CR, LF or a letter of `NO DATA`: nothing before the prompt passes it.
 module _ (f : ℕ → Bool) where

@@ -146,13 +146,6 @@ pairs-bytes (a ∷ []) = tt
 pairs-bytes (a ∷ b ∷ s) =
     all-append (λ c. c < 256) (kept (hexNumber (a ∷ b ∷ []))) (pairBytes s) (kept-bytes (hexNumber (a ∷ b ∷ [])) (number-small (a ∷ b ∷ []))) (pairs-bytes s)
 
-pub data-bytes : (framing : Bool) (text : List ℕ) → All (λ c. c < 256) text → All (λ c. c < 256) (textLine framing text .bytes)
-data-bytes framing text a =
-    by-form (λ l. All (λ c. c < 256) (l .bytes)) framing text
-    (pairs-bytes (unspaced text))
-    (unspaced-bytes text a)
-    (λ h. pairs-bytes (drop 5 (unspaced text)))
-
 -- a buffer that has room for a line's data has them at its front
 pub decoded-bytes : {l : Line} {buffer left : List ℕ} {r : Decoded} → DecodedAs l buffer r left → length (l .bytes) ≤ length buffer → (r .len ≡ length (l .bytes)) × (take (r .len) left ≡ l .bytes)
 decoded-bytes {l} {buffer} {left} {r} d h =

@@ -3,8 +3,8 @@ use mathlib.Core.Path.{_≡_, refl, sym, ap, _∙_}
 use mathlib.Core.List.{List, [], _∷_, _++_}
 use Prim.Native.Nat.{ℕ, _+_, _-_, _≤_, _<_}
 use native.Mathlib.Omega.{arith}
-use lib.ListN.{length, take, drop, getD, length-append, length-drop, drop-of-length-le, take-append-drop}
-use lib.Seq.{length-take-le, drop-cons, drop-drop, drop-append-seam, take-at}
+use lib.ListN.{length, take, drop, length-append, length-drop, drop-of-length-le, take-append-drop}
+use lib.Seq.{length-take-le, drop-drop, drop-append-seam, take-at}
 use borrow.Author.Tests.{eq-eqb, ne-eqb, le-leb, lt-leb}
 use Rattle.wire.specs.Answer.{result, refused}
 use Rattle.wire.proofs.Cases.{from-no}
@@ -169,11 +169,6 @@ step-query s at {r} {pids} {few} {count} {list} {next} bs h d =
     let found = of-step (length s) at (drop at s) pids few count list (next .at) (sym h ∙ ap queryStep d) in
     let (q, rest, g, p₁, p₂, p₃, p₄, p₅) = of-query (length s) at (readQuery (drop at s)) pids few count list (next .at) found in
     (q, query-here s at q rest pids few count list (next .at) bs (query-got (drop at s) q rest g) p₁ p₂ p₃ p₄ p₅)
-
--- a query of one PID has the one that stands there
-pub one-pid : (s : List ℕ) (at : ℕ) (q : Query) (pids few count list next : ℕ) → QueryHere s at q pids few count list next → few ≡ 1 → q .pids ≡ getD s pids 0 ∷ []
-one-pid s at q pids few count list next w e =
-    sym (w .its-pids) ∙ rw (e, drop-cons s pids 0 (omega (arith, w .room)))
 
 of-end : (k at : ℕ) (g : Read Query) → queryAnswer k at g ≡ result [] → ⊥
 of-end k at malformed q = from-no cc
