@@ -44,15 +44,15 @@ use Rattle.agreement.proofs.Asked.{Ready}
 use Rattle.agreement.proofs.Ran.{AllReady, script-ready}
 
 -- The sessions between queries, on any script.
-record Quiet (b : Bench) : Type 0 where
-  turn : b .client .under ≡ under.Nothing
-  size : 4096 ≤ length (b .store)
-  last : List ℕ
-  short : length last ≤ 128
-  server : b .server ≡ quiet last
+pub record Quiet (b : Bench) : Type 0 where
+  pub turn : b .client .under ≡ under.Nothing
+  pub size : 4096 ≤ length (b .store)
+  pub last : List ℕ
+  pub short : length last ≤ 128
+  pub server : b .server ≡ quiet last
 
 -- A query has a part, and the sessions go on; or its reply is too long.
-data Goes (p : Part) : Type 0 where
+pub data Goes (p : Part) : Type 0 where
   goes-on : (bytes : List ℕ) → p .answer ≡ result bytes → Quiet (p .bench) → Goes p
   overlong : p .answer ≡ refused 8 → Goes p
 
@@ -187,7 +187,7 @@ module _ (pids : List ℕ) (count : ℕ) (ls : List Line) (ok : Ready (record { 
       (λ e. subst (λ (s : Said (Unit {0})). Goes (finished (run.asking b s list))) (sym (s ∙ query-repeated c q e)) (repeated (c .known) store ks size server short))
       (λ e. subst (λ (s : Said (Unit {0})). Goes (finished (run.asking b s list))) (sym (s ∙ query-in-full c q e)) (fully (c .known) store ks size server short))
 
-part-goes : (b : Bench) (q : Query) → Quiet b → Ready q → Goes (part b q)
+pub part-goes : (b : Bench) (q : Query) → Quiet b → Ready q → Goes (part b q)
 unfolding part
 part-goes b q m ok =
     let plain : b ≡ record { client = b .client; store = b .store; server = quiet (m .last); lengths = b .lengths } =

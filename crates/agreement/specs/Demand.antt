@@ -41,9 +41,9 @@ commandOf q = unspaced (queryText (q .pids) (q .count))
 abbrev pub commands : List Query → List (List ℕ)
 commands qs = map commandOf qs
 
--- document 01: "A line list fits the limits when its script gets no number before the run, its `reply` has at most 4,096 bytes under the settings then in force
--- (after the initialisation: no linefeeds, no spaces, headers), and the record with its part fits the buffer": how many queries fit, from the first on, in a
--- record buffer of so many bytes
+-- document 01: "A line list fits the limits when its script gets no number before the run, its `reply` has at most 4,096 bytes under the settings then in force,
+-- and the record with its part fits the buffer"; after the initialisation these settings are no linefeeds, no spaces, headers. How many queries fit, from the
+-- first on, in a record buffer of so many bytes
 abbrev pub fitting : ℕ → List Query → ℕ
 fitting room [] = 0
 fitting room (q ∷ qs) =

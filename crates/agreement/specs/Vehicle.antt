@@ -12,6 +12,7 @@ use Rattle.pid.specs.J1979.{j1979}
 use Rattle.line_list.specs.Lines.{Line}
 use Rattle.value.specs.Values.{Value, value}
 
+-- "ECU+1 as the line has it, 7E8+1 when unknown"
 abbrev pub givenEcu : ℕ → ℕ
 givenEcu zero = 0x7E8 + 1
 givenEcu (suc e) = suc e

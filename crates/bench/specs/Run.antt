@@ -38,7 +38,8 @@ replyRoom = 33026
 abbrev pub freshStore : List ℕ
 freshStore = replicate 4096 0
 
--- the values of a reply of 4,096 bytes: three for each of its bytes, and for one more
+-- the values of a reply of 4,096 bytes: three for each of its bytes (a PID of learned length 0 takes two digits, and its value six bytes), and three for a last
+-- line without CR
 abbrev pub valuesRoom : ℕ
 valuesRoom = 12291
 

@@ -61,7 +61,7 @@ finishReply room c reply =
     let lengths = lengthsAfter (c .query .several) (c .query .pids) (c .known .lengths) ls in
     roomFor room c (finished c lengths (valuesOf lengths ls))
 
--- a query's reply is complete
+-- what 1 asks of "a finish": "a complete query reply"
 abbrev pub isComplete : Under → Bool
 isComplete under.Nothing = false
 isComplete under.Reset = false

@@ -1,4 +1,4 @@
--- A piece of a reply, and a failure. Document 01: "A reply is complete once it holds `>`, later bytes included." "The call that ends one of these also writes
+-- A piece of a reply, and a failure. Document 01: "A reply is complete once it holds `>`, later bytes included." "The call that ends one of these .. also writes
 -- the next into its out buffer." "a `?` in its reply turns repeat to No and the full query follows, written by the call whose piece completed that reply; any
 -- other reply turns Unknown to Yes." "While the ATZ answer is awaited, 7 to 9 are not given for reads: any piece, an empty one or a failed read is dropped, as in
 -- Rust; a failed write there ends the initialisation with 7 and changes nothing else."
@@ -72,6 +72,7 @@ setupDone c (suc (suc zero)) n = sendSetup c 3
 setupDone c (suc (suc (suc zero))) n = sendSetup c 4
 setupDone c (suc (suc (suc (suc k)))) n = saying over (withUnder (withKnown c (withFraming (c .known) (c .known .wanted))) under.Nothing n) []
 
+-- "When complete, ATH1 sets framing, ATH0 or ATZ clears it: exact text in any case, whatever the reply said."
 abbrev pub afterEffect : FramingEffect → Bool → Bool
 afterEffect effect.Kept framing = framing
 afterEffect effect.On framing = true
@@ -114,7 +115,7 @@ replyTakes c piece store =
 abbrev pub numbered : {A : Type 0} → ℕ → Client → Said A → Said A
 numbered n c d = cond (eqb n 0) d (refusing n c)
 
--- what a piece says, by what is under way
+-- what a piece says, by what is under way: 1 when no reply is awaited; 3 for "received piece over 128 (256 while the ATZ answer is awaited)"
 abbrev pub pieceUnder : Under → ℕ → Client → List ℕ → List ℕ → Said Progress
 pieceUnder under.Nothing room c piece store = refusing 1 c
 pieceUnder under.Reset room c piece store = numbered (pieceNumber 256 piece room (length store)) c (sendSetup c 0)
@@ -153,7 +154,7 @@ failureUnder under.Query write c = failing 7 c
 failureUnder under.Repeat write c = failing 7 c
 failureUnder under.Complete write c = refusing 1 c
 
--- a reply is awaited
+-- what 1 asks of "a piece or failure": "an awaited reply"
 abbrev pub isAwaited : Under → Bool
 isAwaited under.Nothing = false
 isAwaited under.Reset = true

@@ -44,6 +44,7 @@ initSays room c = started (startNumber c 0 room) c (withUnder c under.Reset 0) (
 abbrev pub rawNumber : List ℕ → ℕ
 rawNumber command = cond (ltb 64 (length command)) 3 (cond (high command) 4 0)
 
+-- "Raw command: CR added unless it ends in one. Starting one forgets the last command."
 unfoldable pub commandSays : ℕ → Client → List ℕ → Said (Unit {0})
 commandSays room c command =
     started (startNumber c (rawNumber command) room) c
@@ -57,6 +58,7 @@ newQuery pids count several = record { text = queryText pids count; pids = pids;
 abbrev pub asking : Client → Query → Under → Client
 asking c q u = withUnder (withQuery c q) u 0
 
+-- "If repeat is not No and the query equals the last one, a bare CR goes out"
 abbrev pub repeats : Known → List ℕ → Bool
 repeats k text = mayTry (k .repeat) && same (k .last) text
 

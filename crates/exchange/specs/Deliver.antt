@@ -1,5 +1,5 @@
 -- The server's bytes for one command, handed to the client. Document 01, "The bench run": "The run is also lent piece lengths, a byte each, used up across the
--- replies after ATZ's: the next piece is that long, or the rest of the reply if shorter; 0, over 128 or none left means 128."
+-- replies after ATZ's (..): the next piece is that long, or the rest of the reply if shorter; 0, over 128 or none left means 128."
 use mathlib.Core.Bool.{cond, _||_}
 use mathlib.Core.List.{List, [], _∷_}
 use Prim.Native.Nat.{ℕ, zero, suc, _-_}

@@ -33,6 +33,7 @@ header spaces l = hexId (ecuId (l .ecu)) ++ (spaceIf spaces ++ (hexByte (length 
 unfoldable pub lineText : Bool → Bool → Line → List ℕ
 lineText spaces headers l = cond headers (header spaces l) [] ++ dataHex spaces (l .bytes)
 
+-- "No lines: `NO DATA`"
 abbrev pub replyLines : Bool → Bool → List Line → List (List ℕ)
 replyLines spaces headers [] = ascii "NO DATA" ∷ []
 replyLines spaces headers (l ∷ ls) = map (lineText spaces headers) (l ∷ ls)

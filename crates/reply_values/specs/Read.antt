@@ -1,5 +1,5 @@
--- A reply read for a query: document 01's order of finishing, "one PID: length, counts, values; several: counts, values"; 6 when the values are longer than the
--- lent buffer, with nothing learned or written.
+-- A reply read for a query: document 01's order of finishing, "one PID: length, counts, values; several (`query_pids`, even of one PID): counts, values,
+-- multi-PID", of which the last is the session's; 6 when the values are longer than the lent buffer, with nothing learned or written.
 use mathlib.Core.Bool.{Bool, cond}
 use mathlib.Core.List.{List, [], _∷_}
 use Prim.Native.Nat.{ℕ}

@@ -1,5 +1,5 @@
--- What a client has set on, or learned about, its peer. Document 01, client_session.rs: "If repeat is not No ..", ".. turns Unknown to Yes", "untested
--- multi-PID support", "A PID's count .. is learned once", "An unknown length is learned for the queried PID only".
+-- What a client has set on, or learned about, its peer. Document 01, "Numbers by who causes them": "untested multi-PID support"; client_session.rs: "If repeat is not
+-- No ..", ".. turns Unknown to Yes", "A PID's count .. is learned once", "An unknown length is learned for the queried PID only".
 use mathlib.Core.Bool.{Bool, true, false, cond}
 use mathlib.Core.List.{List}
 use Prim.Native.Nat.{ℕ, zero, suc}
