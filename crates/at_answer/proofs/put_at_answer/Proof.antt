@@ -1,7 +1,7 @@
 -- `at_answer::put_at_answer` meets its contract: each kind has its lines.
-use Rattle.at_answer.proofs.KindLaws.{identity-lines, ok-lines}
-use Rattle.wire.proofs.PutLaws.{put-then}
 use borrow.Author.Needs.{needs}
+use Rattle.wire.proofs.PutLaws.{put-then}
+use Rattle.at_answer.proofs.KindLaws.{identity-lines, ok-lines}
 use Rattle.at_answer.proofs.put_at_answer.Statement.{statement}
 use Rattle.at_answer.proofs.put_at_answer.Tie as tie
 
