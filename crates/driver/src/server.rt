@@ -74,7 +74,8 @@ fn put_state(server: ServerSession, log: &mut [u8], at: usize) -> usize
     ensures { λ r. ⌜ Put (now (log .entry)) at (stateEntry (session server)) r (now (log .exit)) ⌝ }
 {
     let state = server.state;
-    let phase = server.phase;
+    let turn = server.turn;
+    let phase = turn.phase;
     let first = [
         crate::flag(state.echo_enabled),
         crate::flag(state.linefeeds_enabled),

@@ -1,14 +1,14 @@
 -- Laws of the answers to a handed-out command: what was written and the session that waits again are what is said.
 use mathlib.Core.Path.{_≡_, refl, sym, ap, _∙_}
 use mathlib.Core.Bool.{Bool, true, false, cond, _||_}
-use mathlib.Core.List.{List, [], _∷_, _++_}
+use mathlib.Core.List.{List, [], _∷_}
 use Prim.Native.Nat.{ℕ, _+_, _≤_}
 use native.Mathlib.Omega.{arith}
-use lib.Dec.{ltb}
-use lib.ListN.{length, take, length-append}
+use lib.Dec.{eqb, ltb}
+use lib.ListN.{length, length-append}
 use lib.Seq.{sets}
-use borrow.Author.Tests.{le-ltb, ltb-false}
-use Rattle.wire.specs.Answer.{result, refused}
+use borrow.Author.Tests.{eqb-true, eqb-false, le-ltb, ltb-false}
+use Rattle.wire.specs.Answer.{Answer, result, refused}
 use Rattle.wire.proofs.Cases.{by-test, from-no, or-none}
 use Rattle.group.specs.Group.{Read, got, malformed}
 use Rattle.line_list.specs.Lines.{Line, lineList}
@@ -16,7 +16,7 @@ use Rattle.line_list.proofs.StepLaws.{left-end}
 use Rattle.wire.specs.Put.{Put}
 use Rattle.wire.specs.Text.{ascii, high}
 use Rattle.wire.proofs.PutLaws.{put-whole}
-use Rattle.client_state.specs.Settings.{settings, withLast}
+use Rattle.client_state.specs.Settings.{Settings, settings, withLast}
 use Rattle.client_state.specs.declared.ClientState.{ClientState}
 use Rattle.at_command.specs.Dialect.{atKind, kindSettings, kindLines}
 use Rattle.at_command.specs.declared.AtKind.{AtKind}
@@ -32,12 +32,14 @@ use Rattle.server_session.specs.declared.ServerAnswer.{ServerAnswer}
 use Rattle.server_session.specs.declared.ServerAnswer.the-variants as answer
 use Rattle.server_session.specs.declared.ServerSession.{ServerSession}
 use Rattle.server_session.specs.declared.ReplyStep.{ReplyStep}
+use Rattle.server_session.specs.declared.Wrote.{Wrote}
 use Rattle.server_session.specs.Session.{Session, session, Said, refusing, Served, lent}
-use Rattle.server_session.specs.Replies.{isAt, answered, atAnswered, answerSays, isObd, lastAfter, repliedTo, replyRead, replySays, replyServed}
+use Rattle.server_session.specs.Replies.{isAt, answered, atAnswered, answerSays, isObd, lastAfter, repliedTo, replyRead, replySays, rejectSays, serverAnswer, replyServed}
+use Rattle.server_session.specs.Steps.{isSent, unlessRefused, rejected, keptAfter, wroteServed}
 
 -- the step that sends what was written, with some settings
 abbrev pub sentStep : ClientState → List ℕ → ℕ → ReplyStep
-sentStep state line written = record { answer = answer.Sent; written = written; session = record { state = state; line = line; len = 0; phase = Reading } }
+sentStep state line written = record { answer = answer.Sent; written = written; session = record { state = state; line = line; turn = record { phase = Reading; len = 0 } } }
 
 -- a text that fits is sent whole
 pub sent : (state : ClientState) (line text : List ℕ) {out left : List ℕ} {w : ℕ} → Put out 0 text w left → length text ≤ length out →
@@ -71,16 +73,17 @@ at-short lf ati device Ati h i = omega (arith, one-line lf ati)
 at-short lf ati device Device h i = omega (arith, one-line lf device)
 at-short lf ati device Unknown h i = omega (arith, one-line lf (ascii "?"))
 
--- an AT command is handled and its answer written
+-- an AT command is handled and its answer, which fits, written
 module _ (self : ServerSession) (ati device : List ℕ) (state : ClientState) (kind : AtKind)
     (s : settings state ≡ kindSettings (atKind (session self .line)) (settings (self .state))) (k : kind ≡ atKind (session self .line)) where
-  pub at-sent : {out left : List ℕ} {w : ℕ} → length ati ≤ 32 → length device ≤ 32 → 48 ≤ length out →
+  pub at-sent : {out left : List ℕ} {w : ℕ} → length (atAnswered (session self) ati device .text) ≤ length out →
       Put out 0 (chipReply (settings state .linefeeds) (kindLines ati device kind)) w left →
       replyServed (sentStep state (self .line) w) left ≡ lent (atAnswered (session self) ati device) out
-  at-sent {out} {left} {w} h i room p =
-      let fits = at-short (settings state .linefeeds) ati device kind h i in
-      sent state (self .line) (chipReply (settings state .linefeeds) (kindLines ati device kind)) p (omega arith) ∙
-      (λ t. lent (answered (s t) (chipReply ((s t) .linefeeds) (kindLines ati device (k t)))) out)
+  at-sent {out} {left} {w} fits p =
+      let same : answered (settings state) (chipReply (settings state .linefeeds) (kindLines ati device kind)) ≡ atAnswered (session self) ati device =
+      λ t. answered (s t) (chipReply ((s t) .linefeeds) (kindLines ati device (k t))) in
+      let long = ap (λ (d : Said (Unit {0})). length (d .text)) same in
+      sent state (self .line) (chipReply (settings state .linefeeds) (kindLines ati device kind)) p (omega arith) ∙ ap (λ d. lent d out) same
 
 -- how long a reply of one line is, exactly
 pub one-size : (linefeeds : Bool) (t : List ℕ) → length (chipReply linefeeds (t ∷ [])) ≡ length t + cond linefeeds 5 3
@@ -88,25 +91,25 @@ one-size true t = simp length-append (omega arith)
 one-size false t = simp length-append (omega arith)
 
 -- a reply to a line list, by what `write_reply` answered
-module _ (self : ServerSession) (list : List ℕ) (out left : List ℕ) (turn : isObd (self .phase) ≡ true) where
+module _ (s : Session) (list : List ℕ) (out left : List ℕ) (turn : isObd (s .phase) ≡ true) where
   abbrev lf : Bool
-  lf = self .state .«linefeeds_enabled»
+  lf = s .state .linefeeds
 
   abbrev sp : Bool
-  sp = self .state .«spaces_enabled»
+  sp = s .state .spaces
 
   abbrev hd : Bool
-  hd = self .state .«headers_enabled»
+  hd = s .state .headers
 
-  abbrev refusedStep : ServerAnswer → ReplyStep
-  refusedStep a = record { answer = a; written = 0; session = self }
+  abbrev wrote : ServerAnswer → ℕ → Wrote
+  wrote a n = record { answer = a; written = n }
 
-  in-turn : replySays (length out) (session self) list ≡ replyRead (length out) (session self) (lineList list)
+  in-turn : replySays (length out) s list ≡ replyRead (length out) s (lineList list)
   unfolding replySays
   in-turn = rw turn
 
   five : (g : Read (List Line)) → R.lent Malformed left ≡ R.repliedWith lf sp hd g out →
-      replyServed (refusedStep answer.Malformed) left ≡ lent (replyRead (length out) (session self) g) out
+      wroteServed s list (wrote answer.Malformed 0) left ≡ lent (replyRead (length out) s g) out
   five malformed q = let e : left ≡ out = ap (λ (x : R.Lent). x .out) q in rw e
   five (got ls rest) q =
       let text = replyText lf sp hd ls in
@@ -115,7 +118,7 @@ module _ (self : ServerSession) (list : List ℕ) (out left : List ℕ) (turn : 
       (λ t. let r : R.lent Malformed left ≡ record { answer = result (length text); out = sets out 0 text } = rw t at q in from-no (cc (ap (λ (x : R.Lent). x .answer) r)))
 
   six : (g : Read (List Line)) → R.lent SmallBuffer left ≡ R.repliedWith lf sp hd g out →
-      replyServed (refusedStep answer.SmallBuffer) left ≡ lent (replyRead (length out) (session self) g) out
+      wroteServed s list (wrote answer.SmallBuffer 0) left ≡ lent (replyRead (length out) s g) out
   six malformed q = from-no (cc (ap (λ (x : R.Lent). x .answer) q))
   six (got ls rest) q =
       let text = replyText lf sp hd ls in
@@ -126,42 +129,78 @@ module _ (self : ServerSession) (list : List ℕ) (out left : List ℕ) (turn : 
       rw (t, e))
       (λ t. let r : R.lent SmallBuffer left ≡ record { answer = result (length text); out = sets out 0 text } = rw t at q in from-no (cc (ap (λ (x : R.Lent). x .answer) r)))
 
-  pub reply-malformed : R.lent Malformed left ≡ R.replied lf sp hd list out → replyServed (refusedStep answer.Malformed) left ≡ lent (replySays (length out) (session self) list) out
+  pub reply-malformed : R.lent Malformed left ≡ R.replied lf sp hd list out → wroteServed s list (wrote answer.Malformed 0) left ≡ lent (replySays (length out) s list) out
   unfolding R.replied
   reply-malformed q = five (lineList list) q ∙ ap (λ d. lent d out) (sym in-turn)
 
-  pub reply-small : R.lent SmallBuffer left ≡ R.replied lf sp hd list out → replyServed (refusedStep answer.SmallBuffer) left ≡ lent (replySays (length out) (session self) list) out
+  pub reply-small : R.lent SmallBuffer left ≡ R.replied lf sp hd list out → wroteServed s list (wrote answer.SmallBuffer 0) left ≡ lent (replySays (length out) s list) out
   unfolding R.replied
   reply-small q = six (lineList list) q ∙ ap (λ d. lent d out) (sym in-turn)
 
-  module _ (n : ℕ) (q : R.lent (Written n) left ≡ R.replied lf sp hd list out) (state : ClientState) where
-    -- with the settings that the lines leave
-    written : ((ls : List Line) (rest : List ℕ) → lineList list ≡ got ls rest → settings state ≡ lastAfter ls (session self)) →
-        replyServed (sentStep state (self .line) n) left ≡ lent (replySays (length out) (session self) list) out
-    written k =
-        let (ls, rest, g, fits, p) = written-told lf sp hd list out q in
-        let text = replyText lf sp hd ls in
-        let e : replyRead (length out) (session self) (lineList list) ≡ repliedTo (session self) ls = rw (g, le-ltb (length out) (length text) fits) in
-        sent state (self .line) text p fits ∙
-        (λ t. lent (answered ((k ls rest g) t) text) out) ∙
-        ap (λ d. lent d out) (sym (in-turn ∙ e))
+  -- a list of no bytes has no lines, and only that one
+  some-lines : (ls : List Line) → (ls ≡ [] → ⊥) → withLast (s .state) (s .line) ≡ lastAfter ls s
+  some-lines [] z = absurd (z refl)
+  some-lines (l ∷ ls) z = refl
 
-    pub reply-none : length list ≡ 0 → settings state ≡ settings (self .state) → replyServed (sentStep state (self .line) n) left ≡ lent (replySays (length out) (session self) list) out
-    unfolding lineList
-    reply-none h e =
-        written (λ ls rest g.
-        let g₂ = left-end 64 list 0 (omega arith) in
-        let none : ls ≡ [] = cc in
-        rw none e)
+  kept-after : (ls : List Line) (rest : List ℕ) → lineList list ≡ got ls rest → keptAfter (length list) s ≡ lastAfter ls s
+  unfolding lineList
+  kept-after ls rest g =
+      by-test (eqb (length list) 0)
+      (λ t.
+      let g₂ = left-end 64 list 0 (omega (arith, eqb-true (length list) 0 t)) in
+      let none : ls ≡ [] = cc in
+      rw (t, none))
+      (λ t. rw t (some-lines ls (λ z. eqb-false (length list) 0 t (no-lines 64 list rest (g ∙ rw z)))))
 
-    pub reply-some : (length list ≡ 0 → ⊥) → settings state ≡ withLast (settings (self .state)) (session self .line) →
-        replyServed (sentStep state (self .line) n) left ≡ lent (replySays (length out) (session self) list) out
-    unfolding lineList
-    reply-some h e = written (λ ls rest g. e ∙ some-last ls (λ z. h (no-lines 64 list rest (g ∙ rw z))))
-      where
-        some-last : (ls : List Line) → (ls ≡ [] → ⊥) → withLast (settings (self .state)) (session self .line) ≡ lastAfter ls (session self)
-        some-last [] z = absurd (z refl)
-        some-last (l ∷ ls) z = refl
+  pub reply-lines : (n : ℕ) → R.lent (Written n) left ≡ R.replied lf sp hd list out → wroteServed s list (wrote answer.Sent n) left ≡ lent (replySays (length out) s list) out
+  reply-lines n q =
+      let (ls, rest, g, fits, p) = written-told lf sp hd list out q in
+      let text = replyText lf sp hd ls in
+      let e : replyRead (length out) s (lineList list) ≡ repliedTo s ls = rw (g, le-ltb (length out) (length text) fits) in
+      let all : n ≡ length text = omega (arith, put-whole p (omega arith)) in
+      let k = kept-after ls rest g in
+      (λ t. record { answer = result tt; written = all t; next = record { state = k t; line = []; phase = Reading }; out = p .bytes t }) ∙
+      ap (λ d. lent d out) (sym (in-turn ∙ e))
+
+-- By the answer that was found first: a number leaves the session, and what is sent is said.
+
+unless-sent : (a : Answer (Unit {0})) (s : Session) (d : Said (Unit {0})) → isSent a ≡ true → unlessRefused a s d ≡ d
+unless-sent (result u) s d e = refl
+unless-sent (refused n) s d e = from-no cc
+
+pub says-sent : (a : ServerAnswer) (s : Session) {x d : Said (Unit {0})} → x ≡ unlessRefused (serverAnswer a) s d → isSent (serverAnswer a) ≡ true → x ≡ d
+says-sent a s {d = d} q e = q ∙ unless-sent (serverAnswer a) s d e
+
+next-refused : (a : Answer (Unit {0})) (s : Session) (d : Said (Unit {0})) → isSent a ≡ false → unlessRefused a s d .next ≡ s
+next-refused (result u) s d e = from-no cc
+next-refused (refused n) s d e = refl
+
+serves-refused : (a : Answer (Unit {0})) (s : Session) (d : Said (Unit {0})) (out : List ℕ) → isSent a ≡ false →
+    record { answer = a; written = 0; next = s; out = out } ≡ lent (unlessRefused a s d) out
+serves-refused (result u) s d out e = from-no cc
+serves-refused (refused n) s d out e = refl
+
+pub refused-served : (self : ServerSession) (a : ServerAnswer) {x : Said (Unit {0})} (d : Said (Unit {0})) (out : List ℕ) → x ≡ unlessRefused (serverAnswer a) (session self) d → isSent (serverAnswer a) ≡ false →
+    replyServed (record { answer = a; written = 0; session = self }) out ≡ lent x out
+refused-served self a d out q e = serves-refused (serverAnswer a) (session self) d out e ∙ ap (λ x. lent x out) (sym q)
+
+sent-alike : (a : Answer (Unit {0})) (s : Session) {k : Settings} {n : ℕ} {out : List ℕ} (m : Settings) → isSent a ≡ true → m ≡ k →
+    _≡_ {A = Served (Unit {0})} (record { answer = result tt; written = n; next = record { state = m; line = []; phase = Reading }; out = out })
+    (record { answer = a; written = n; next = unlessRefused a s (answered k []) .next; out = out })
+sent-alike (result u) s {k} {n} {out} m e q = λ i. record { answer = result tt; written = n; next = record { state = q i; line = []; phase = Reading }; out = out }
+sent-alike (refused n) s m e q = from-no cc
+
+module _ (self : ServerSession) (list left : List ℕ) (w : Wrote) {x : Served (Unit {0})} (q : wroteServed (session self) list w left ≡ x) where
+  -- the session that waits again, after a reply that was written
+  pub reply-sent : (state : ClientState) → isSent (serverAnswer (w .answer)) ≡ true → settings state ≡ keptAfter (length list) (session self) →
+      replyServed (sentStep state (self .line) (w .written)) left ≡ x
+  reply-sent state e k = sent-alike (serverAnswer (w .answer)) (session self) (settings state) e k ∙ q
+
+  -- and as it was, after one that was not
+  pub reply-unsent : isSent (serverAnswer (w .answer)) ≡ false → replyServed (record { answer = w .answer; written = w .written; session = self }) left ≡ x
+  reply-unsent e =
+      let k = next-refused (serverAnswer (w .answer)) (session self) (answered (keptAfter (length list) (session self)) []) e in
+      (λ i. record { answer = serverAnswer (w .answer); written = w .written; next = sym k i; out = left }) ∙ q
 
 -- What the contracts give a caller: the bytes to send stand inside the lent buffer.
 record Short (room : ℕ) (d : Said (Unit {0})) : Type 0 where
@@ -208,6 +247,18 @@ read-short room s (got ls rest) =
 reply-short : (room : ℕ) (s : Session) (list : List ℕ) → Short room (replySays room s list)
 unfolding replySays
 reply-short room s list = short-any (isObd (s .phase)) (λ _. read-short room s (lineList list)) (λ _. short-number 1 s)
+
+reject-short : (room : ℕ) (s : Session) (text : List ℕ) → Short room (rejectSays room s text)
+unfolding rejectSays
+reject-short room s text =
+    short-any (isObd (s .phase))
+    (λ _. short-any (ltb 64 (length text)) (λ _. short-number 3 s)
+    (λ _. short-any (high text) (λ _. short-number 4 s)
+    (λ _. short-any (ltb room (length (rejected s text .text))) (λ _. short-number 6 s) (λ f. record { fits = ltb-false room (length (rejected s text .text)) f }))))
+    (λ _. short-number 1 s)
+
+pub reject-fits : (room : ℕ) (s : Session) (text : List ℕ) → length (rejectSays room s text .text) ≤ room
+reject-fits room s text = reject-short room s text .fits
 
 pub reply-fits : (room : ℕ) (s : Session) (list : List ℕ) → length (replySays room s list .text) ≤ room
 reply-fits room s list = reply-short room s list .fits

@@ -2,7 +2,7 @@
 use mathlib.Core.Path.{_≡_, refl, sym, ap, _∙_}
 use mathlib.Core.Bool.{Bool, true, false, cond}
 use mathlib.Core.List.{List, [], _∷_, _++_, append-nil, append-assoc}
-use Prim.Native.Nat.{ℕ, suc, _+_, _-_, _≤_, _<_}
+use Prim.Native.Nat.{ℕ, suc, _+_, _-_, _≤_, _<_, min}
 use native.Mathlib.Nat.{zero-add, add-zero}
 use native.Mathlib.Numerals.{add-one}
 use native.Mathlib.Omega.{arith}
@@ -19,25 +19,23 @@ use Rattle.server_session.specs.declared.Phase.{Phase}
 use Rattle.server_session.specs.declared.ServerSession.{ServerSession}
 use Rattle.server_session.specs.declared.ByteAnswer.{ByteAnswer}
 use Rattle.server_session.specs.declared.ByteStep.{ByteStep}
+use Rattle.server_session.specs.declared.Turn.{Turn}
 use Rattle.server_session.specs.declared.Run.{Run}
-use Rattle.server_session.specs.Session.{Session, session, isReading, Said}
+use Rattle.server_session.specs.Session.{session, isReading, Said}
 use Rattle.server_session.specs.Bytes.{withLine, echoes, byteSays, byteAnswer, Heard, bytesSay, ServedBytes, bytesServed, lentBytes}
-use Rattle.server_session.specs.Steps.{Does, goesOn, counted, isSpecial, RunFits, Ran}
-use Rattle.wire.proofs.ListLaws.{take-cut}
+use Rattle.server_session.specs.Steps.{Does, goesOn, counted, isSpecial, RunFits, Ran, Joins}
 use Rattle.server_session.proofs.ByteLaws.{reading, text-short}
+use Rattle.server_session.proofs.StepLaws.{line-size, line-cut}
 use Rattle.server_session.proofs.BytesLaws.{after, on-counted, lastOf, bytes-on, bytes-stop, onward-after, echo-append, echo-less, bytes-some}
 
 -- How many bytes a run may have
 
-pub fits-none : (s : Session) (left free : ℕ) → length (s .line) ≤ 128 → RunFits s left free 0
-fits-none s left free h = record { there = omega arith; line = omega arith; turn = λ k. absurd (omega arith); room = λ k. absurd (omega arith) }
+pub fits-none : (t : Turn) (echo : Bool) (left free : ℕ) → RunFits t echo left free 0
+fits-none t echo left free = record { there = omega arith; line = omega arith; turn = λ k. absurd (omega arith); room = λ k. absurd (omega arith) }
 
-module _ (s : Session) (left free most : ℕ) (there : most ≤ left) (line : length (s .line) + most ≤ 128) (turn : isReading (s .phase) ≡ true) (h : 8 ≤ free) where
-  pub fits-echo : s .state .echo ≡ true → most + 8 ≤ free → RunFits s left free most
-  fits-echo e k = record { there = there; line = line; turn = λ _. turn; room = λ _. rw e k }
-
-  pub fits-quiet : s .state .echo ≡ false → RunFits s left free most
-  fits-quiet e = record { there = there; line = line; turn = λ _. turn; room = λ _. rw e h }
+module _ (t : Turn) (left free most : ℕ) (there : most ≤ left) (line : min (t .len) 128 + most ≤ 128) (turn : isReading (t .phase) ≡ true) where
+  pub fits-echo : (echo : Bool) → cond echo most 0 + 8 ≤ free → RunFits t echo left free most
+  fits-echo echo k = record { there = there; line = line; turn = λ _. turn; room = λ _. k }
 
 -- The run's own loop
 
@@ -58,17 +56,17 @@ put-nothing true out at = put-none out at
 put-nothing false out at = put-none out at
 
 pub ran-none : (line : List ℕ) (len : ℕ) (input : List ℕ) (i : ℕ) (out : List ℕ) (at : ℕ) (echo : Bool) (most : ℕ) →
-    Ran line len input i out at echo most (record { count = 0; at = at }) line out
+    Ran line len input i out at echo most 0 at line out
 ran-none line len input i out at echo most = record { within = omega arith; plain = refl; joined = rw (add-zero, append-nil (take len line)); sent = put-nothing echo out at }
 
 module _ (line : List ℕ) (len : ℕ) (input : List ℕ) (i : ℕ) (out : List ℕ) (at : ℕ) (echo : Bool) (most n end : ℕ) (l o : List ℕ)
-    (ran : Ran line len input i out at echo most (record { count = n; at = end }) l o)
+    (ran : Ran line len input i out at echo most n end l o)
     (more : n < most) (fits : len + most ≤ length l) (there : i + most ≤ length input) (plain : isSpecial (getD input (i + n) 0) ≡ false) where
   one-more : take (n + 1) (drop i input) ≡ take n (drop i input) ++ (getD input (i + n) 0 ∷ [])
   one-more = rw add-one (take-suc (drop i input) n 0 (omega (arith, length-drop i input)) ∙ rw (getD-drop i input n 0))
 
   pub ran-more : {o₁ : List ℕ} {next : ℕ} → Put o end (cond echo (getD input (i + n) 0 ∷ []) []) next o₁ →
-      Ran line len input i out at echo most (record { count = n + 1; at = next }) (set l (len + n) (getD input (i + n) 0)) o₁
+      Ran line len input i out at echo most (n + 1) next (set l (len + n) (getD input (i + n) 0)) o₁
   ran-more p =
       let place : len + (n + 1) ≡ suc (len + n) = omega arith in
       record {
@@ -95,35 +93,46 @@ served-after i n h {e} {out} {o₁} {at} {a} p k =
     λ j. record { answer = h .answer; taken = t j; written = l j; next = h .next; out = sym (w .bytes) j }
 
 -- A part of a turn takes the loop from one place to another, and what is served in the end stays the same.
-pub record Turn (input : List ℕ) (s : ServerSession) (i at : ℕ) (out : List ℕ) (s₁ : ServerSession) (i₁ at₁ : ℕ) (o : List ℕ) : Type 0 where
+pub record Leads (input : List ℕ) (s : ServerSession) (i at : ℕ) (out : List ℕ) (s₁ : ServerSession) (i₁ at₁ : ℕ) (o : List ℕ) : Type 0 where
   pub there : i₁ ≤ length input
   pub inside : at₁ ≤ length o
   pub same : length o ≡ length out
   pub says : servedFrom i₁ at₁ (bytesSay (length o - at₁) (session s₁) (drop i₁ input)) o ≡ servedFrom i at (bytesSay (length out - at) (session s) (drop i input)) out
 
--- The turn of the loop: a run
+-- A turn of the loop: its run
 
-module _ (s : ServerSession) (input out : List ℕ) (i at len left free most : ℕ) (r : Run) (l o : List ℕ)
-    (inside : at ≤ length out) (there : i ≤ length input) (size : len ≡ length (session s .line)) (is-left : left ≡ length input - i) (is-free : free ≡ length out - at)
-    (fits : RunFits (session s) left free most) (ran : Ran (s .line) len input i out at (s .state .«echo_enabled») most r l o) where
+module _ (s : ServerSession) (input out : List ℕ) (i at : ℕ) (r : Run) (l o : List ℕ) (k : length (s .line) ≡ 128)
+    (inside : at ≤ length out) (there : i ≤ length input) (run : Joins (s .turn) (s .state .«echo_enabled») (s .line) input i out at r l o) where
+  abbrev count : ℕ
+  count = run .to .count
+
+  abbrev ran : Ran (s .line) (min (s .turn .len) 128) input i out at (s .state .«echo_enabled») (run .most) count (r .at) l o
+  ran = run .to .ran
+
+  abbrev fits : RunFits (s .turn) (s .state .«echo_enabled») (length input - i) (length out - at) (run .most)
+  fits = run .fits
+
   abbrev text : List ℕ
-  text = take (r .count) (drop i input)
+  text = take count (drop i input)
 
-  text-long : length text ≡ r .count
-  text-long = omega (arith, length-take (r .count) (drop i input), length-drop i input, ran .within, fits .there)
+  abbrev then : ServerSession
+  then = record { state = s .state; line = l; turn = record { phase = s .turn .phase; len = r .len } }
 
-  joins : session (record { state = s .state; line = l; len = len + r .count; phase = s .phase }) ≡ withLine (session s) (session s .line ++ text) (s .phase)
+  text-long : length text ≡ count
+  text-long = omega (arith, length-take count (drop i input), length-drop i input, ran .within, fits .there)
+
+  joins : session then ≡ withLine (session s) (session s .line ++ text) (s .turn .phase)
   joins =
-      let whole : take len (s .line) ≡ take (s .len) (s .line) = rw size (take-cut (s .len) (s .line)) in
-      let line : take (len + r .count) l ≡ take (s .len) (s .line) ++ text = rw whole at (ran .joined) in
-      ap (λ (x : List ℕ). withLine (session s) x (s .phase)) line
+      let line : take (r .len) l ≡ take (s .turn .len) (s .line) ++ text =
+      ap (λ n. take n l) (run .to .ends) ∙ ran .joined ∙ ap (λ (x : List ℕ). x ++ text) (line-cut (s .turn .len) (s .line) k) in
+      ap (λ (x : List ℕ). withLine (session s) x (s .turn .phase)) line
 
-  splits : drop i input ≡ text ++ drop (i + r .count) input
-  splits = rw (← drop-drop (r .count) i input) (sym (take-append-drop (r .count) (drop i input)))
+  splits : drop i input ≡ text ++ drop (i + count) input
+  splits = rw (← drop-drop count i input) (sym (take-append-drop count (drop i input)))
 
   echo-room : 0 < length text → length (echoes (session s) text) + 8 ≤ length out - at
   echo-room some =
-      omega (arith, text-long, is-free, fits .room (omega (arith, text-long, ran .within)), echo-length (s .state .«echo_enabled») text, echo-most (s .state .«echo_enabled») (length text) most (omega (arith, text-long, ran .within)))
+      omega (arith, text-long, fits .room (omega (arith, text-long, ran .within)), echo-length (s .state .«echo_enabled») text, echo-most (s .state .«echo_enabled») (length text) (run .most) (omega (arith, text-long, ran .within)))
 
   echo-fits : length (echoes (session s) text) ≤ length out - at
   echo-fits =
@@ -131,25 +140,28 @@ module _ (s : ServerSession) (input out : List ℕ) (i at len left free most : �
       (λ e. omega (arith, eqb-true (length text) 0 e, echo-less (s .state .«echo_enabled») text))
       (λ e. let some : (length text ≡ 0 → ⊥) = eqb-false (length text) 0 e in omega (arith, echo-room (omega arith)))
 
-  pub run-turn : Turn input s i at out (record { state = s .state; line = l; len = len + r .count; phase = s .phase }) (i + r .count) (r .at) o
+  pub run-turn : Leads input s i at out then (r .next) (r .at) o
   run-turn =
       let e = echoes (session s) text in
-      let k : at + length e ≤ length out = omega (arith, echo-fits) in
-      let room : length o - r .at ≡ length out - at - length e = omega (arith, put-whole (ran .sent) k, put-length (ran .sent)) in
-      let h = bytesSay (length out - at - length e) (withLine (session s) (session s .line ++ text) (s .phase)) (drop (i + r .count) input) in
-      let says : bytesSay (length out - at) (session s) (drop i input) ≡ after (r .count) e h =
+      let w : at + length e ≤ length out = omega (arith, echo-fits) in
+      let room : length o - r .at ≡ length out - at - length e = omega (arith, put-whole (ran .sent) w, put-length (ran .sent)) in
+      let h = bytesSay (length out - at - length e) (withLine (session s) (session s .line ++ text) (s .turn .phase)) (drop (i + count) input) in
+      let says : bytesSay (length out - at) (session s) (drop i input) ≡ after count e h =
       ap (bytesSay (length out - at) (session s)) splits ∙
-      bytes-some text (drop (i + r .count) input) (session s) (length out - at) (ran .plain) (λ some. reading (s .phase) (fits .turn (omega (arith, text-long, ran .within))))
-      (omega (arith, text-long, ran .within, fits .line)) echo-room ∙
+      bytes-some text (drop (i + count) input) (session s) (length out - at) (ran .plain) (λ some. reading (s .turn .phase) (fits .turn (omega (arith, text-long, ran .within))))
+      (omega (arith, text-long, ran .within, fits .line, line-size (s .turn .len) (s .line) k)) echo-room ∙
       ap (λ (n : ℕ). after n e h) text-long in
       record {
-        there = omega (arith, ran .within, fits .there);
+        there = omega (arith, run .to .next, ran .within, fits .there);
         inside = omega (arith, put-inside (ran .sent) inside, put-length (ran .sent));
         same = put-length (ran .sent);
-        says = rw (says, room, joins) (sym (served-after i (r .count) h (ran .sent) k));
+        says =
+            (λ j. servedFrom (run .to .next j) (r .at) (bytesSay (room j) (joins j) (drop (run .to .next j) input)) o) ∙
+            sym (served-after i count h (ran .sent) w) ∙
+            ap (λ (x : Heard). servedFrom i at x out) (sym says);
       }
 
--- The turn of the loop: the byte after it
+-- A turn of the loop: the byte after it
 
 module _ (s : ServerSession) (input out : List ℕ) (i at : ℕ) (r : ByteStep) (o : List ℕ)
     (inside : at ≤ length out) (here : i < length input) (does : Does (byteSays (length out - at) (session s) (getD input i 0)) out at r o) where
@@ -159,7 +171,7 @@ module _ (s : ServerSession) (input out : List ℕ) (i at : ℕ) (r : ByteStep) 
   fit : at + length (said .text) ≤ length out
   fit = omega (arith, text-short (length out - at) (session s) (getD input i 0) .1)
 
-  pub byte-turn : {n : ℕ} → n ≡ counted (byteAnswer (r .answer)) → goesOn (byteAnswer (r .answer)) ≡ true → Turn input s i at out (r .session) (i + n) (r .written) o
+  pub byte-turn : {n : ℕ} → n ≡ counted (byteAnswer (r .answer)) → goesOn (byteAnswer (r .answer)) ≡ true → Leads input s i at out (r .session) (i + n) (r .written) o
   byte-turn {n} c e =
       let one : n ≡ 1 = c ∙ on-counted (byteAnswer (r .answer)) e in
       let room : length o - r .written ≡ length out - at - length (said .text) = omega (arith, put-whole (does .text) fit, put-length (does .text)) in
@@ -184,7 +196,7 @@ module _ (s : ServerSession) (input out : List ℕ) (i at : ℕ) (r : ByteStep) 
       rw says (λ j. record { answer = does .answer j; taken = i + count j; written = end j; next = does .next j; out = does .text .bytes j })
 
 -- no byte is left
-pub bytes-end : (room : ℕ) (s : ServerSession) (input out : List ℕ) (i at : ℕ) (a : ByteAnswer) → length input ≤ i → byteAnswer a ≡ result (s .phase) →
+pub bytes-end : (room : ℕ) (s : ServerSession) (input out : List ℕ) (i at : ℕ) (a : ByteAnswer) → length input ≤ i → byteAnswer a ≡ result (s .turn .phase) →
     bytesServed (record { answer = a; taken = i; written = at; session = s }) out ≡ servedFrom i at (bytesSay room (session s) (drop i input)) out
 unfolding bytesSay
 bytes-end room s input out i at a h e = rw (drop-of-length-le input h, e) (simp add-zero)

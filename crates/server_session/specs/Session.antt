@@ -18,7 +18,7 @@ pub record Session : Type 0 where
 
 -- what a ServerSession holds, whatever stands in its fields
 abbrev pub session : ServerSession → Session
-session s = record { state = settings (s .state); line = take (s .len) (s .line); phase = s .phase }
+session s = record { state = settings (s .state); line = take (s .turn .len) (s .line); phase = s .turn .phase }
 
 -- no command is handed out
 abbrev pub isReading : Phase → Bool

@@ -1,19 +1,25 @@
 -- What the private steps of the code do. No public contract cites these.
 use mathlib.Core.Path.{_≡_}
 use mathlib.Core.Bool.{Bool, true, false, cond, _||_}
-use mathlib.Core.List.{List, [], _++_}
-use Prim.Native.Nat.{ℕ, _+_, _≤_, _<_}
+use mathlib.Core.List.{List, [], _∷_, _++_}
+use Prim.Native.Nat.{ℕ, _+_, _-_, _≤_, _<_, min}
 use lib.Dec.{eqb, leb}
 use lib.ListN.{length, take, drop}
 use Rattle.wire.specs.Answer.{Answer, result, refused}
 use Rattle.wire.specs.Put.{Put}
 use Rattle.wire.specs.Text.{any}
+use Rattle.client_state.specs.Settings.{Settings, withLast}
+use Rattle.reply.specs.Shape.{chipReply}
 use Rattle.server_session.specs.declared.Phase.{Phase}
 use Rattle.server_session.specs.declared.Phase.the-variants as phase
+use Rattle.server_session.specs.declared.Turn.{Turn}
+use Rattle.server_session.specs.declared.ServerSession.{ServerSession}
 use Rattle.server_session.specs.declared.ByteStep.{ByteStep}
 use Rattle.server_session.specs.declared.Run.{Run}
-use Rattle.server_session.specs.Session.{Session, session, isReading, Said}
-use Rattle.server_session.specs.Bytes.{byteAnswer, echoes}
+use Rattle.server_session.specs.declared.Wrote.{Wrote}
+use Rattle.server_session.specs.Session.{Session, session, isReading, Said, refusing, Served}
+use Rattle.server_session.specs.Bytes.{byteAnswer}
+use Rattle.server_session.specs.Replies.{serverAnswer, answered}
 
 -- A step that writes from a position of the out buffer on does what is said.
 pub record Does (d : Said Phase) (out : List ℕ) (at : ℕ) (r : ByteStep) (left : List ℕ) : Type 0 where
@@ -41,16 +47,71 @@ counted (refused n) = 0
 unfoldable pub isSpecial : ℕ → Bool
 isSpecial b = leb 128 b || (eqb b 13 || eqb b 10)
 
--- As many bytes, if they are not special, join the line with no number, and leave room for one more.
-pub record RunFits (s : Session) (left free most : ℕ) : Type 0 where
-  pub there : most ≤ left
-  pub line : length (s .line) + most ≤ 128
-  pub turn : 0 < most → isReading (s .phase) ≡ true
-  pub room : 0 < most → cond (s .state .echo) most 0 + 8 ≤ free
+-- The session in a phase, its line the first len bytes; the answer is the phase.
+pub record Turned (s : ServerSession) (p : Phase) (len end : ℕ) (r : ByteStep) : Type 0 where
+  pub answer : byteAnswer (r .answer) ≡ result p
+  pub written : r .written ≡ end
+  pub next : r .session ≡ record { state = s .state; line = s .line; turn = record { phase = p; len = len } }
 
--- A run: bytes from a position of the input on join a line of len bytes, and are sent back where echo is on.
-pub record Ran (line : List ℕ) (len : ℕ) (input : List ℕ) (i : ℕ) (out : List ℕ) (at : ℕ) (echo : Bool) (most : ℕ) (r : Run) (line₁ out₁ : List ℕ) : Type 0 where
-  pub within : r .count ≤ most
-  pub plain : any isSpecial (take (r .count) (drop i input)) ≡ false
-  pub joined : take (len + r .count) line₁ ≡ take len line ++ take (r .count) (drop i input)
-  pub sent : Put out at (cond echo (take (r .count) (drop i input)) []) (r .at) out₁
+-- As many bytes, if they are not special, join the line with no number, and leave room for one more.
+pub record RunFits (t : Turn) (echo : Bool) (left free most : ℕ) : Type 0 where
+  pub there : most ≤ left
+  pub line : min (t .len) 128 + most ≤ 128
+  pub turn : 0 < most → isReading (t .phase) ≡ true
+  pub room : 0 < most → cond echo most 0 + 8 ≤ free
+
+-- A run: so many bytes from a position of the input on join a line of len bytes, and are sent back where echo is on, up to a position of the out buffer.
+pub record Ran (line : List ℕ) (len : ℕ) (input : List ℕ) (i : ℕ) (out : List ℕ) (at : ℕ) (echo : Bool) (most count end : ℕ) (line₁ out₁ : List ℕ) : Type 0 where
+  pub within : count ≤ most
+  pub plain : any isSpecial (take count (drop i input)) ≡ false
+  pub joined : take (len + count) line₁ ≡ take len line ++ take count (drop i input)
+  pub sent : Put out at (cond echo (take count (drop i input)) []) end out₁
+
+-- The same by where it ends.
+pub record RanTo (line : List ℕ) (len : ℕ) (input : List ℕ) (i : ℕ) (out : List ℕ) (at : ℕ) (echo : Bool) (most : ℕ) (r : Run) (line₁ out₁ : List ℕ) : Type 0 where
+  pub count : ℕ
+  pub ends : r .len ≡ len + count
+  pub next : r .next ≡ i + count
+  pub ran : Ran line len input i out at echo most count (r .at) line₁ out₁
+
+-- A run that fits.
+pub record Joins (t : Turn) (echo : Bool) (line input : List ℕ) (i : ℕ) (out : List ℕ) (at : ℕ) (r : Run) (line₁ out₁ : List ℕ) : Type 0 where
+  pub most : ℕ
+  pub fits : RunFits t echo (length input - i) (length out - at) most
+  pub to : RanTo line (min (t .len) 128) input i out at echo most r line₁ out₁
+
+-- no number was given
+abbrev pub isSent : Answer (Unit {0}) → Bool
+isSent (result u) = true
+isSent (refused n) = false
+
+-- a number, or else what is said
+abbrev pub unlessRefused : Answer (Unit {0}) → Session → Said (Unit {0}) → Said (Unit {0})
+unlessRefused (result u) s d = d
+unlessRefused (refused n) s d = refusing n s
+
+-- a text rejects the command
+abbrev pub rejected : Session → List ℕ → Said (Unit {0})
+rejected s text = answered (s .state) (chipReply (s .state .linefeeds) (text ∷ []))
+
+-- a session by its phase and the settings that a reply goes by
+abbrev pub shown : Phase → Bool → Bool → Bool → Bool → List ℕ → List ℕ → Session
+shown p echo linefeeds spaces headers last line = record {
+  state = record { echo = echo; linefeeds = linefeeds; spaces = spaces; headers = headers; last = last };
+  line = line;
+  phase = p;
+}
+
+-- the settings after a reply with a line list of some bytes
+abbrev pub keptAfter : ℕ → Session → Settings
+keptAfter n s = cond (eqb n 0) (s .state) (withLast (s .state) (s .line))
+
+-- what was written serves what is said
+abbrev pub wroteServed : Session → List ℕ → Wrote → List ℕ → Served (Unit {0})
+wroteServed s list w out =
+    record {
+      answer = serverAnswer (w .answer);
+      written = w .written;
+      next = unlessRefused (serverAnswer (w .answer)) s (answered (keptAfter (length list) s) []) .next;
+      out = out;
+    }

@@ -5,18 +5,18 @@ mod replies;
 use client_state::ClientState;
 ghost use mathlib.Core.Path.{_≡_};
 ghost use mathlib.Core.Bool.{cond, _&&_, not};
-ghost use mathlib.Core.List.{[], _∷_};
-ghost use Prim.Native.Nat.{_+_, _-_, _≤_, min};
+ghost use mathlib.Core.List.{List, [], _∷_};
+ghost use Prim.Native.Nat.{ℕ, _+_, _-_, _≤_, min};
 ghost use lib.Dec.{eqb, leb};
 ghost use lib.ListN.{length, take};
 ghost use Rattle.wire.specs.Answer.{result};
 ghost use Rattle.wire.specs.Put.{Put};
-ghost use Rattle.wire.specs.Text.{ascii, begins};
+ghost use Rattle.client_state.specs.Settings.{Settings};
 ghost use Rattle.server_session.specs.Session.{session, freshSession, isReading, lent};
-ghost use Rattle.server_session.specs.Bytes.{canonical, byteNumber, emptyLine, lineEnd, byteTaken, byteSays, byteAnswer, byteServed, bytesSay, bytesServed, lentBytes};
-ghost use Rattle.server_session.specs.Steps.{Does, numbered, goesOn, counted, isSpecial, RunFits, Ran};
+ghost use Rattle.server_session.specs.Bytes.{canonical, byteNumber, commandPhase, emptyLine, lineEnd, byteTaken, byteSays, byteAnswer, byteServed, bytesSay, bytesServed, lentBytes};
+ghost use Rattle.server_session.specs.Steps.{Does, numbered, goesOn, counted, isSpecial, Turned, RunFits, RanTo, Joins};
 
-// Whose turn it is.
+// Who speaks next.
 pub enum Phase {
     // A line is read.
     Reading,
@@ -26,12 +26,17 @@ pub enum Phase {
     ObdCommand,
 }
 
+// Whose turn it is, and how many bytes of line are the line as far as it is read, or the command handed out.
+pub struct Turn {
+    pub phase: Phase,
+    pub len: usize,
+}
+
 pub struct ServerSession {
     pub state: ClientState,
-    // The line as far as it is read, or the command handed out: its first len bytes.
+    // The line as far as it is read, or the command handed out: its first turn.len bytes.
     pub line: [u8; 128],
-    pub len: usize,
-    pub phase: Phase,
+    pub turn: Turn,
 }
 
 // What a byte did.
@@ -89,10 +94,17 @@ pub struct ReplyStep {
     pub session: ServerSession,
 }
 
-// A run of bytes that joined the line: how many, and the position in out after what they sent back.
+// A run of bytes that joined the line: where it ends in the line, in the input, and in out with what was sent back.
 struct Run {
-    count: usize,
+    len: usize,
+    next: usize,
     at: usize,
+}
+
+// What a reply wrote, or the number that it got.
+struct Wrote {
+    answer: ServerAnswer,
+    written: usize,
 }
 
 fn is_reading(phase: Phase) -> bool
@@ -105,7 +117,7 @@ fn is_reading(phase: Phase) -> bool
     }
 }
 
-// The answer to no byte at all.
+// The answer that tells of a phase.
 fn phase_answer(phase: Phase) -> ByteAnswer
     ensures { λ r. ⌜ byteAnswer r ≡ result phase ⌝ }
 {
@@ -121,12 +133,7 @@ fn goes_on(answer: ByteAnswer) -> bool
 {
     match answer {
         ByteAnswer::Taken => true,
-        ByteAnswer::AtCommand => false,
-        ByteAnswer::ObdCommand => false,
-        ByteAnswer::OutOfTurn => false,
-        ByteAnswer::SmallBuffer => false,
-        ByteAnswer::NotAscii => false,
-        ByteAnswer::LineFull => false,
+        _ => false,
     }
 }
 
@@ -135,13 +142,8 @@ fn counts(answer: ByteAnswer) -> usize
     ensures { λ r. ⌜ r ≡ counted (byteAnswer answer) ⌝ }
 {
     match answer {
-        ByteAnswer::Taken => 1,
-        ByteAnswer::AtCommand => 1,
-        ByteAnswer::ObdCommand => 1,
-        ByteAnswer::OutOfTurn => 0,
-        ByteAnswer::SmallBuffer => 0,
-        ByteAnswer::NotAscii => 0,
-        ByteAnswer::LineFull => 0,
+        ByteAnswer::Taken | ByteAnswer::AtCommand | ByteAnswer::ObdCommand => 1,
+        _ => 0,
     }
 }
 
@@ -204,17 +206,40 @@ fn make_canonical(line: &mut [u8; 128], size: usize) -> usize
     n
 }
 
-// Whether the first n bytes of a line start with AT.
-fn is_at(line: &[u8; 128], n: usize) -> bool
-    ensures { λ r. ⌜ r ≡ begins (take n (now (line .entry))) (ascii "AT") ⌝ }
+// The kind of the command that the first n bytes of a line are.
+fn command_phase(line: &[u8; 128], n: usize) -> Phase
+    ensures { λ r. ⌜ r ≡ commandPhase (take n (now (line .entry))) ⌝ }
 {
     if n < 2 {
-        return false;
+        return Phase::ObdCommand;
     }
     if line[0] == b'A' {
-        return line[1] == b'T';
+        if line[1] == b'T' {
+            return Phase::AtCommand;
+        }
     }
-    false
+    Phase::ObdCommand
+}
+
+// The number that a byte gets, or Taken.
+fn refusal(turn: Turn, b: u8, room: usize) -> ByteAnswer
+    ensures { λ r. ⌜ ((state : Settings) (line : List ℕ) → length line ≡ min (turn .len) 128 → byteAnswer r ≡ numbered (byteNumber room (record { state = state; line = line; phase = turn .phase }) b)) ⌝ }
+{
+    let phase = turn.phase;
+    let full = is_full(turn.len, b);
+    if is_reading(phase) {
+        if room < 8 {
+            return ByteAnswer::SmallBuffer;
+        }
+        if 128 <= b {
+            return ByteAnswer::NotAscii;
+        }
+        if full {
+            return ByteAnswer::LineFull;
+        }
+        return ByteAnswer::Taken;
+    }
+    ByteAnswer::OutOfTurn
 }
 
 // A byte is sent back where echo is on.
@@ -225,6 +250,24 @@ fn put_echo(out: &mut [u8], at: usize, echo: bool, b: u8) -> usize
         return wire::put_byte(out, at, b);
     }
     at
+}
+
+// How many bytes may join the line as a run, if none of them is special.
+fn run_room(turn: Turn, echo: bool, left: usize, free: usize) -> usize
+    ensures { λ r. ⌜ RunFits turn echo left free r ⌝ }
+{
+    let phase = turn.phase;
+    if is_reading(phase) {
+        if free < 8 {
+            return 0;
+        }
+        let most = wire::at_most(left, room_at(128, turn.len));
+        if echo {
+            return wire::at_most(most, free - 8);
+        }
+        return most;
+    }
+    0
 }
 
 // Lets bytes of the input from i on join the line and sends them back, up to the first special one, at most most of them.
@@ -239,20 +282,42 @@ fn join_run(
     most: usize,
 ) -> Run
     requires { ⌜ (len + most ≤ 128) × (length (now line) ≡ 128) × (i + most ≤ length (now input)) ⌝ }
-    ensures { λ r. ⌜ Ran (now (line .entry)) len (now (input .entry)) i (now (out .entry)) at echo most r (now (line .exit)) (now (out .exit)) ⌝ }
+    ensures { λ r. ⌜ RanTo (now (line .entry)) len (now (input .entry)) i (now (out .entry)) at echo most r (now (line .exit)) (now (out .exit)) ⌝ }
 {
     let mut n: usize = 0;
     let mut end = at;
     while n < most {
         let b = input[i + n];
         if is_special(b) {
-            return Run { count: n, at: end };
+            break;
         }
         line[len + n] = b;
         end = put_echo(out, end, echo, b);
         n += 1;
     }
-    Run { count: n, at: end }
+    Run {
+        len: len + n,
+        next: i + n,
+        at: end,
+    }
+}
+
+// Lets the bytes from i on join the line that just join it, as far as there is room for them.
+fn read_run(
+    line: &mut [u8; 128],
+    turn: Turn,
+    echo: bool,
+    input: &[u8],
+    i: usize,
+    out: &mut [u8],
+    at: usize,
+) -> Run
+    requires { ⌜ (length (now line) ≡ 128) × (i ≤ length (now input)) ⌝ }
+    ensures { λ r. ⌜ Joins turn echo (now (line .entry)) (now (input .entry)) i (now (out .entry)) at r (now (line .exit)) (now (out .exit)) ⌝ }
+{
+    let len = wire::at_most(turn.len, 128);
+    let most = run_room(turn, echo, room_at(input.len(), i), room_at(out.len(), at));
+    join_run(line, len, input, i, out, at, echo, most)
 }
 
 impl ServerSession {
@@ -263,8 +328,10 @@ impl ServerSession {
         ServerSession {
             state: ClientState::default(),
             line: [0; 128],
-            len: 0, // no byte is read
-            phase: Phase::Reading, // nor a command handed out
+            turn: Turn {
+                phase: Phase::Reading, // no command is handed out
+                len: 0, // nor a byte read
+            },
         }
     }
 
@@ -272,100 +339,51 @@ impl ServerSession {
     pub fn command_size(self) -> usize
         ensures { λ r. ⌜ r ≡ length (session self .line) ⌝ }
     {
-        let n = self.len;
+        let n = self.turn.len;
         if n < 128 {
             return n;
         }
         128
     }
 
-    // The number that a byte gets, or Taken.
-    fn refusal(self, b: u8, room: usize) -> ByteAnswer
-        ensures { λ r. ⌜ byteAnswer r ≡ numbered (byteNumber room (session self) b) ⌝ }
+    // The session in a phase, its line the first len bytes.
+    fn turned(mut self, phase: Phase, len: usize, written: usize) -> ByteStep
+        ensures { λ r. ⌜ Turned self phase len written r ⌝ }
     {
-        let phase = self.phase;
-        let full = is_full(self.command_size(), b);
-        if is_reading(phase) {
-            if room < 8 {
-                return ByteAnswer::SmallBuffer;
-            }
-            if 128 <= b {
-                return ByteAnswer::NotAscii;
-            }
-            if full {
-                return ByteAnswer::LineFull;
-            }
-            return ByteAnswer::Taken;
+        let turn = Turn { phase, len };
+        self.turn = turn;
+        ByteStep {
+            answer: phase_answer(phase),
+            written,
+            session: self,
         }
-        ByteAnswer::OutOfTurn
     }
 
     // The end of an empty line: the last command is handed out, or `?` is written when there is none.
-    fn end_empty(self, out: &mut [u8], at: usize) -> ByteStep
+    fn end_empty(mut self, out: &mut [u8], at: usize) -> ByteStep
         ensures { λ r. ⌜ Does (emptyLine (session self) [] (session self .state .last)) (now (out .entry)) at r (now (out .exit)) ⌝ }
     {
-        let state = self.state;
-        let size = state.last_size();
+        let size = wire::at_most(self.state.last_len, 128);
         if size == 0 {
-            let line = self.line;
-            let end = reply::put_text_reply(out, at, b"?", state.linefeeds_enabled);
-            return ByteStep {
-                answer: ByteAnswer::Taken,
-                written: end,
-                session: ServerSession {
-                    state: state,
-                    line: line,
-                    len: 0,
-                    phase: Phase::Reading,
-                },
-            };
+            let end = reply::put_text_reply(out, at, b"?", self.state.linefeeds_enabled);
+            return self.turned(Phase::Reading, 0, end);
         }
-        let last = state.last_obd_command;
-        ByteStep {
-            answer: ByteAnswer::ObdCommand,
-            written: at,
-            session: ServerSession {
-                state: state,
-                line: last,
-                len: size,
-                phase: Phase::ObdCommand,
-            },
-        }
+        let last = self.state.last_obd_command;
+        self.line = last;
+        self.turned(Phase::ObdCommand, size, at)
     }
 
     // The end of a line: its command is handed out.
-    fn end_line(self, out: &mut [u8], at: usize) -> ByteStep
+    fn end_line(mut self, out: &mut [u8], at: usize) -> ByteStep
         ensures { λ r. ⌜ Does (lineEnd (session self) [] (canonical (session self .line))) (now (out .entry)) at r (now (out .exit)) ⌝ }
     {
-        let mut line = self.line;
-        let size = self.command_size();
-        let n = make_canonical(&mut line, size);
+        let size = wire::at_most(self.turn.len, 128);
+        let n = make_canonical(&mut self.line, size);
         if n == 0 {
             return self.end_empty(out, at);
         }
-        let state = self.state;
-        if is_at(&line, n) {
-            return ByteStep {
-                answer: ByteAnswer::AtCommand,
-                written: at,
-                session: ServerSession {
-                    state: state,
-                    line: line,
-                    len: n,
-                    phase: Phase::AtCommand,
-                },
-            };
-        }
-        ByteStep {
-            answer: ByteAnswer::ObdCommand,
-            written: at,
-            session: ServerSession {
-                state: state,
-                line: line,
-                len: n,
-                phase: Phase::ObdCommand,
-            },
-        }
+        let phase = command_phase(&self.line, n);
+        self.turned(phase, n, at)
     }
 
     // A byte that gets no number.
@@ -373,8 +391,7 @@ impl ServerSession {
         requires { ⌜ byteNumber (length (now out) - at) (session self) b ≡ 0 ⌝ }
         ensures { λ r. ⌜ Does (byteTaken (session self) b) (now (out .entry)) at r (now (out .exit)) ⌝ }
     {
-        let state = self.state;
-        let end = put_echo(out, at, state.echo_enabled, b);
+        let end = put_echo(out, at, self.state.echo_enabled, b);
         if b == b'\r' {
             return self.end_line(out, end);
         }
@@ -385,9 +402,9 @@ impl ServerSession {
                 session: self,
             };
         }
-        let len = self.len;
+        let len = self.turn.len;
         self.line[len] = b;
-        self.len = len + 1;
+        self.turn.len = len + 1;
         ByteStep {
             answer: ByteAnswer::Taken,
             written: end,
@@ -399,12 +416,12 @@ impl ServerSession {
     fn byte_at(self, b: u8, out: &mut [u8], at: usize) -> ByteStep
         ensures { λ r. ⌜ Does (byteSays (length (now (out .entry)) - at) (session self) b) (now (out .entry)) at r (now (out .exit)) ⌝ }
     {
-        let answer = self.refusal(b, room_at(out.len(), at));
+        let answer = refusal(self.turn, b, room_at(out.len(), at));
         if goes_on(answer) {
             return self.take(b, out, at);
         }
         ByteStep {
-            answer: answer,
+            answer,
             written: at,
             session: self,
         }
@@ -417,72 +434,42 @@ impl ServerSession {
         self.byte_at(b, out, 0)
     }
 
-    // How many bytes may join the line as a run, if none of them is special.
-    fn run_room(self, left: usize, free: usize) -> usize
-        ensures { λ r. ⌜ RunFits (session self) left free r ⌝ }
-    {
-        let phase = self.phase;
-        if is_reading(phase) {
-            if free < 8 {
-                return 0;
-            }
-            let state = self.state;
-            let most = wire::at_most(left, 128 - self.command_size());
-            if state.echo_enabled {
-                return wire::at_most(most, free - 8);
-            }
-            return most;
-        }
-        0
-    }
-
     // Bytes from the reader, one after the other: it stops after the one that hands a command out, or before the one that gets a number. A run of bytes that
     // just join the line is taken without a call for each.
-    pub fn bytes(self, input: &[u8], out: &mut [u8]) -> BytesStep
+    pub fn bytes(mut self, input: &[u8], out: &mut [u8]) -> BytesStep
         ensures { λ r. ⌜ bytesServed r (now (out .exit)) ≡ lentBytes (bytesSay (length (now (out .entry))) (session self) (now (input .entry))) (now (out .entry)) ⌝ }
     {
-        let mut session = self;
         let mut i: usize = 0;
         let mut at: usize = 0;
         loop {
-            let state = session.state;
-            let most = session.run_room(room_at(input.len(), i), room_at(out.len(), at));
-            let len = session.command_size();
-            let ran = join_run(
-                &mut session.line,
-                len,
-                input,
-                i,
-                out,
-                at,
-                state.echo_enabled,
-                most,
-            );
-            session.len = len + ran.count;
-            i = i + ran.count;
+            let turn = self.turn;
+            let echo = self.state.echo_enabled;
+            let ran = read_run(&mut self.line, turn, echo, input, i, out, at);
+            self.turn.len = ran.len;
+            i = ran.next;
             at = ran.at;
             if input.len() <= i {
-                let phase = session.phase;
+                let phase = turn.phase;
                 return BytesStep {
                     answer: phase_answer(phase),
                     taken: i,
                     written: at,
-                    session: session,
+                    session: self,
                 };
             }
-            let step = session.byte_at(input[i], out, at);
+            let step = self.byte_at(input[i], out, at);
             let answer = step.answer;
-            session = step.session;
+            self = step.session;
             at = step.written;
             i = i + counts(answer);
             if goes_on(answer) {
                 continue;
             }
             return BytesStep {
-                answer: answer,
+                answer,
                 taken: i,
                 written: at,
-                session: session,
+                session: self,
             };
         }
     }

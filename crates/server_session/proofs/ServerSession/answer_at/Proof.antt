@@ -1,24 +1,17 @@
 -- `server_session::ServerSession::answer_at` meets its contract.
 use mathlib.Core.Path.{_≡_, ap, _∙_}
-use native.Mathlib.Omega.{arith}
-use lib.ListN.{take, length-take}
+use lib.ListN.{length, take}
 use borrow.Author.Needs.{needs}
-use Rattle.wire.proofs.ListLaws.{take-cut}
+use Rattle.server_session.proofs.StepLaws.{line-cut}
 use Rattle.server_session.proofs.ReplyLaws.{at-sent}
 use Rattle.server_session.proofs.ServerSession.answer_at.Statement.{statement}
 use Rattle.server_session.proofs.ServerSession.answer_at.Tie as tie
 
-command-size-requires : tie.Need-command-size-requires
-command-size-requires c κs = search needs
+at-most-requires : tie.Need-at-most-requires
+at-most-requires c κs = search needs
 
-array-share-prefix-line : tie.Need-array-share-prefix-line
-array-share-prefix-line c = omega (arith, c .before .command-size .ensures, length-take (c .before .before .before .before .before .args .self .len) (c .before .before .before .before .before .args .self .line))
-
-slice-aggregate-at-handled : tie.Need-slice-aggregate-at-handled
-slice-aggregate-at-handled c = omega (arith, c .before .before .command-size .ensures, length-take (c .before .before .command-size .result) (c .before .before .before .before .before .before .args .self .line), length-take (c .before .before .before .before .before .before .args .self .len) (c .before .before .before .before .before .before .args .self .line))
-
-at-handled-requires : tie.Need-at-handled-requires
-at-handled-requires c κs = search needs
+handled-requires : tie.Need-handled-requires
+handled-requires c κs = search needs
 
 put-at-answer-requires : tie.Need-put-at-answer-requires
 put-at-answer-requires c κs = search needs
@@ -30,16 +23,14 @@ same-length : tie.Need-same-length
 same-length c = search needs
 
 returns : tie.Need-returns
-returns c = let a = c .before .before .before .before .before .before .before .before .before .before .before .before .before .args in let cut : take (c .before .before .before .before .before .before .before .before .before .command-size .result) (a .self .line) ≡ take (a .self .len) (a .self .line) = ap (λ n. take n (a .self .line)) (c .before .before .before .before .before .before .before .before .before .command-size .ensures) ∙ take-cut (a .self .len) (a .self .line) in let h = rw cut at (c .before .before .before .before .before .before .at-handled .ensures) in rw (c .answered .ensures) (at-sent (a .self) (a .ati .now) (a .device .now) (c .before .before .before .before .before .before .at-handled .result .state) (c .before .before .before .before .before .before .at-handled .result .kind) (h .0) (h .1) (c .before .before .before .before .before .before .before .before .before .before .before .before .before .pre .0) (c .before .before .before .before .before .before .before .before .before .before .before .before .before .pre .1) (c .before .before .before .before .before .before .before .before .before .before .before .before .before .pre .2) (c .before .before .before .put-at-answer .ensures))
+returns c = let s = c .before .before .before .before .before .before .before .before .before .before .before .before .before .before .before .args .t1 in let k : length (s .line) ≡ 128 = search (needs, c .before .before .before .before .before .before .before .before .before .before .before .before .before .before .before .good .0) in let cut = ap (λ n. take n (s .line)) (c .before .before .before .before .before .before .before .before .before .before .before .at-most .ensures) ∙ line-cut (s .turn .len) (s .line) k in let h = rw cut at (c .before .before .before .before .before .before .handled .ensures) in rw (c .answered .ensures) (at-sent s (c .before .before .before .before .before .before .before .before .before .before .before .before .before .before .before .args .ati .now) (c .before .before .before .before .before .before .before .before .before .before .before .before .before .before .before .args .device .now) (c .before .before .before .before .before .before .handled .result .state) (c .before .before .before .before .before .before .handled .result .kind) (h .0) (h .1) (c .before .before .before .before .before .before .before .before .before .before .before .before .before .before .before .pre) (c .before .before .before .put-at-answer .ensures))
 
 pub answer-at-spec : {M : Type 1} → statement M
 answer-at-spec =
     tie.close
     (tie.spec
-    command-size-requires
-    array-share-prefix-line
-    slice-aggregate-at-handled
-    at-handled-requires
+    at-most-requires
+    handled-requires
     put-at-answer-requires
     answered-requires
     same-length

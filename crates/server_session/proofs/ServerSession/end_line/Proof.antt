@@ -1,19 +1,19 @@
 -- `server_session::ServerSession::end_line` meets its contract.
-use mathlib.Core.Path.{_≡_, refl, sym, _∙_}
-use native.Mathlib.Omega.{arith}
-use lib.ListN.{length, length-take}
+use mathlib.Core.List.{[]}
+use mathlib.Core.Path.{_≡_, refl}
+use lib.ListN.{length}
 use borrow.Author.Needs.{needs}
-use Rattle.server_session.specs.declared.ByteAnswer.the-variants as answer
-use Rattle.server_session.specs.declared.Phase.the-variants as phase
-use Rattle.server_session.proofs.StepLaws.{end-empty, end-command}
+use Rattle.wire.proofs.PutLaws.{put-none}
+use Rattle.server_session.specs.Session.{session}
+use Rattle.server_session.proofs.StepLaws.{end-empty, end-command, empty-same, does-turn}
 use Rattle.server_session.proofs.ServerSession.end_line.Statement.{statement}
 use Rattle.server_session.proofs.ServerSession.end_line.Tie as tie
 
-command-size-requires : tie.Need-command-size-requires
-command-size-requires c κs = search needs
+at-most-requires : tie.Need-at-most-requires
+at-most-requires c κs = search needs
 
 make-canonical-requires : tie.Need-make-canonical-requires
-make-canonical-requires c κs = let s = c .before .before .before .before .args .self in let k : length (s .line) ≡ 128 = search needs in (omega (arith, c .before .command-size .ensures, length-take (s .len) (s .line)), k)
+make-canonical-requires c κs = search needs
 
 end-empty-requires : tie.Need-end-empty-requires
 end-empty-requires c κs = search needs
@@ -22,26 +22,26 @@ same-length : tie.Need-same-length
 same-length c = search needs
 
 returns : tie.Need-returns
-returns c = rw (end-empty (c .before .before .before .before .before .before .before .before .before .before .args .self) (c .before .before .before .before .before .make-canonical .last .0) _ _ (c .before .before .before .before .before .before .before .command-size .ensures) (c .before .before .before .before .before .make-canonical .ensures .0) (c .before .before .before .before .if1 .taken)) (c .before .before .end-empty .ensures)
+returns c = let s = c .before .before .before .before .before .before .before .before .before .args .t1 in let k : length (s .line) ≡ 128 = search (needs, c .before .before .before .before .before .before .before .before .before .good .0) in let made = rw (c .before .before .before .before .before .before .before .at-most .ensures) at (c .before .before .before .before .before .make-canonical .ensures .0) in rw (end-empty s k _ _ made (c .before .before .before .before .if1 .taken)) (rw (empty-same (session s) _ (s .turn .phase) [] (session s .state .last)) at (c .before .before .end-empty .ensures))
 
-is-at-requires : tie.Need-is-at-requires
-is-at-requires c κs = search needs
+command-phase-requires : tie.Need-command-phase-requires
+command-phase-requires c κs = search needs
+
+turned-requires : tie.Need-turned-requires
+turned-requires c κs = search needs
 
 returns-2 : tie.Need-returns-2
-returns-2 c = end-command (c .before .before .before .before .before .before .before .before .before .before .args .self) _ _ _ (c .before .before .before .before .before .before .before .command-size .ensures) (c .before .before .before .before .before .make-canonical .ensures .0) (c .before .before .before .before .before .make-canonical .ensures .1) (c .before .before .before .before .if1 .left) _ _ answer.AtCommand phase.AtCommand refl (rw (sym (c .before .is-at .ensures) ∙ c .if2 .taken))
-
-returns-3 : tie.Need-returns-3
-returns-3 c = end-command (c .before .before .before .before .before .before .before .before .before .before .args .self) _ _ _ (c .before .before .before .before .before .before .before .command-size .ensures) (c .before .before .before .before .before .make-canonical .ensures .0) (c .before .before .before .before .before .make-canonical .ensures .1) (c .before .before .before .before .if1 .left) _ _ answer.ObdCommand phase.ObdCommand refl (rw (sym (c .before .is-at .ensures) ∙ c .if2 .left))
+returns-2 c = let s = c .before .before .before .before .before .before .before .before .before .args .t1 in let k : length (s .line) ≡ 128 = search (needs, c .before .before .before .before .before .before .before .before .before .good .0) in let made = rw (c .before .before .before .before .before .before .before .at-most .ensures) at (c .before .before .before .before .before .make-canonical .ensures .0) in rw (end-command s k _ _ made (c .before .before .before .before .before .make-canonical .ensures .1) (c .before .before .before .before .if1 .left), ← c .before .command-phase .ensures) (does-turn (session s) _ (c .turned .ensures) refl refl (put-none _ _))
 
 pub end-line-spec : {M : Type 1} → statement M
 end-line-spec =
     tie.close
     (tie.spec
-    command-size-requires
+    at-most-requires
     make-canonical-requires
     end-empty-requires
     same-length
     returns
-    is-at-requires
-    returns-2
-    returns-3)
+    command-phase-requires
+    turned-requires
+    returns-2)
