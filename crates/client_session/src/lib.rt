@@ -9,7 +9,7 @@ use server_state::FeatureSupport;
 use server_state::ServerState;
 ghost use mathlib.Core.Path.{_≡_};
 ghost use mathlib.Core.List.{[]};
-ghost use Rattle.client_session.specs.Session.{client, freshClient, withUnder, withKnown, withLast, withMulti};
+ghost use Rattle.client_session.specs.Session.{client, freshClient, withUnder, withKnown, withLast};
 ghost use Rattle.client_session.specs.Piece.{isSeveral, failedClient};
 
 // What is under way.
@@ -176,17 +176,8 @@ impl ClientSession {
         self.moved(Under::Nothing, 0)
     }
 
-    fn with_multi_pid(mut self, multi_pid: FeatureSupport) -> ClientSession
-        ensures { λ r. ⌜ client r ≡ withKnown (client self) (withMulti (client self .known) «multi_pid») ⌝ }
-    {
-        let server = self.server;
-        let next = server.with_multi_pid(multi_pid);
-        self.server = next;
-        self
-    }
-
     // The session after 7, 8 or 9.
-    fn failed(self) -> ClientSession
+    fn failed(mut self) -> ClientSession
         ensures { λ r. ⌜ client r ≡ failedClient (client self) ⌝ }
     {
         let turn = self.turn;
@@ -194,8 +185,9 @@ impl ClientSession {
         if is_several(under, self.several) {
             let server = self.server;
             let multi_pid = server.multi_pid;
-            let next = self.with_multi_pid(multi_pid.decide(FeatureSupport::No));
-            return next.forgets();
+            let decided = server.with_multi_pid(multi_pid.decide(FeatureSupport::No));
+            self.server = decided;
+            return self.forgets();
         }
         self.forgets()
     }

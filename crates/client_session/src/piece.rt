@@ -13,7 +13,7 @@ ghost use Prim.Native.Nat.{_≤_};
 ghost use lib.Dec.{ltb};
 ghost use lib.ListN.{length, take};
 ghost use Rattle.wire.specs.Text.{high};
-ghost use Rattle.client_session.specs.Session.{client, lent, withUnder, withKnown, withLast, withFraming, withRepeat};
+ghost use Rattle.client_session.specs.Session.{client, lent, withUnder, withKnown, withLast, withFraming};
 ghost use Rattle.client_session.specs.Piece.{awaited, pieceNumber, failedClient, sendSetup, setupDone, afterEffect, repeatDone, completed, progressed, replyTakes, pieceLent, failureUnder, failureSays, isWrite, pieceAnswer, pieceServed, pieceReceived};
 ghost use Rattle.client_session.specs.Steps.{Does, Ends, Joining, Receives, byNumber, turnNumber, replyNumber, pieceLimit};
 
@@ -160,12 +160,6 @@ impl ClientSession {
         self.over(self.want_framing, got)
     }
 
-    fn end_raw(self, effect: FramingEffect, got: usize) -> PieceStep
-        ensures { λ r. ⌜ Ends (withUnder (withKnown (client self) (withFraming (client self .known) (afterEffect effect (client self .known .framing)))) Under.Nothing got) PieceAnswer.Over 0 r ⌝ }
-    {
-        self.over(after_effect(effect, self.server.framing), got)
-    }
-
     // A query in full is answered: a bare CR would now repeat it.
     fn end_query(mut self, got: usize) -> PieceStep
         ensures { λ r. ⌜ Ends (withUnder (withKnown (client self) (withLast (client self .known) (client self .query .text))) Under.Complete got) PieceAnswer.Complete 0 r ⌝ }
@@ -175,29 +169,22 @@ impl ClientSession {
         self.ends(PieceAnswer::Complete, 0, Under::Complete, got)
     }
 
-    fn with_repeat(mut self, repeat: FeatureSupport) -> ClientSession
-        ensures { λ r. ⌜ client r ≡ withKnown (client self) (withRepeat (client self .known) repeat) ⌝ }
-    {
-        let server = self.server;
-        let next = server.with_repeat(repeat);
-        self.server = next;
-        self
-    }
-
     // A repeated query is answered: with a `?` it is sent in full.
-    fn end_repeat(self, reply: &[u8], out: &mut [u8]) -> PieceStep
+    fn end_repeat(mut self, reply: &[u8], out: &mut [u8]) -> PieceStep
         ensures { λ r. ⌜ Does (repeatDone (client self) (now (reply .entry))) (now (out .entry)) (pieceServed r (now (out .exit))) ⌝ }
     {
+        let server = self.server;
         if wire::has(reply, b'?') {
             let query = self.query;
             let written = query.put_line(out, 0);
-            let next = self.with_repeat(FeatureSupport::No);
-            return next.ends(PieceAnswer::Sent, written, Under::Query, 0);
+            let refused = server.with_repeat(FeatureSupport::No);
+            self.server = refused;
+            return self.ends(PieceAnswer::Sent, written, Under::Query, 0);
         }
-        let server = self.server;
         let repeat = server.repeat;
-        let next = self.with_repeat(repeat.decide(FeatureSupport::Yes));
-        next.ends(PieceAnswer::Complete, 0, Under::Complete, reply.len())
+        let confirmed = server.with_repeat(repeat.decide(FeatureSupport::Yes));
+        self.server = confirmed;
+        self.ends(PieceAnswer::Complete, 0, Under::Complete, reply.len())
     }
 
     // The awaited reply is complete.
@@ -207,7 +194,9 @@ impl ClientSession {
         match under {
             Under::Reset => self.send_setup(0, out),
             Under::Setup(k) => self.end_setup(k, reply.len(), out),
-            Under::Raw(effect) => self.end_raw(effect, reply.len()),
+            Under::Raw(effect) => {
+                self.over(after_effect(effect, self.server.framing), reply.len())
+            }
             Under::Query => self.end_query(reply.len()),
             Under::Repeat => self.end_repeat(reply, out),
             _ => self.unmoved(PieceAnswer::OutOfTurn),
