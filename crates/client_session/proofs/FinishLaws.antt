@@ -1,27 +1,27 @@
 -- Laws of a finish: what reading the reply says of the query, and the reply that the store holds.
-use mathlib.Core.Path.{_≡_, refl, sym, ap, _∙_}
+use mathlib.Core.Path.{_≡_, sym, ap, _∙_}
 use mathlib.Core.List.{List, [], _∷_}
 use mathlib.Core.Bool.{true, false}
 use Prim.Native.Nat.{ℕ, _≤_, _<_, min}
 use lib.Dec.{ltb}
 use lib.ListN.{length, take}
 use lib.Seq.{sets, take-all}
-use Rattle.wire.specs.Answer.{Answer, result, refused}
+use Rattle.wire.specs.Answer.{result, refused}
 use borrow.Author.Tests.{lt-ltb, le-ltb}
 use Rattle.wire.specs.Text.{high}
 use Rattle.wire.proofs.Cases.{by-test, from-no}
 use Rattle.wire.proofs.ListLaws.{take-min}
-use Rattle.line_list.specs.Lines.{Line}
 use Rattle.value.specs.Values.{Value, valuesBytes}
 use Rattle.reply_lines.specs.Decode.{replyLines}
 use Rattle.reply_values.specs.Values.{valuesOf, answerOrder}
 use Rattle.reply_values.specs.Learn.{lengthsAfter, learnCounts, givenPids}
-use Rattle.reply_values.specs.Read.{Read, Asked, asked, replyRead, readValues, readReply}
+use Rattle.reply_values.specs.Read.{Read, replyRead, readValues, readReply}
 use Rattle.reply_values.specs.declared.ReadAnswer.the-variants as read
 use Rattle.reply_values.specs.declared.ReplyRead.{ReplyRead}
 use Rattle.client_session.specs.Session.{Client, refusing, Served, lent}
 use Rattle.client_session.specs.Piece.{failing, replyIn}
 use Rattle.client_session.specs.Finish.{isComplete, taught, finishReply, finishSays}
+use Rattle.client_session.specs.Steps.{question, finishStored}
 
 -- the reply that the store holds
 pub reply-in : (c : Client) (store : List ℕ) (n : ℕ) → n ≡ min (c .got) 4096 → replyIn c store ≡ take n store
@@ -39,19 +39,23 @@ module _ (room : ℕ) (c : Client) (store : List ℕ) where
     finish-small h = rw (turn, lt-ltb (length store) 4096 h)
 
     module _ (fits : 4096 ≤ length store) where
-      pub finish-high : high (replyIn c store) ≡ true → finishSays room c store ≡ failing 9 c
+      pub finish-stored : finishSays room c store ≡ finishStored room c (replyIn c store)
       unfolding finishSays
-      finish-high e = rw (turn, le-ltb (length store) 4096 fits, e)
+      finish-stored = rw (turn, le-ltb (length store) 4096 fits)
 
       pub finish-low : high (replyIn c store) ≡ false → finishSays room c store ≡ finishReply room c (replyIn c store)
-      unfolding finishSays
-      finish-low e = rw (turn, le-ltb (length store) 4096 fits, e)
+      finish-low e = finish-stored ∙ rw e
+
+-- the reply that the store holds: 9, and none
+module _ (room : ℕ) (c : Client) (reply : List ℕ) where
+  pub stored-high : high reply ≡ true → finishStored room c reply ≡ failing 9 c
+  stored-high e = rw e
+
+  pub stored-low : high reply ≡ false → finishStored room c reply ≡ finishReply room c reply
+  stored-low e = rw e
 
 -- a reply read for the query of a session
 module _ (c : Client) (reply out : List ℕ) (short : length reply ≤ 4096) where
-  abbrev question : Asked
-  question = asked (c .known .framing) (c .query .several) (c .query .pids) (c .known .lengths) (c .known .counts)
-
   abbrev lengths : List ℕ
   lengths = lengthsAfter (c .query .several) (c .query .pids) (c .known .lengths) (replyLines (c .known .framing) reply)
 
@@ -61,11 +65,11 @@ module _ (c : Client) (reply out : List ℕ) (short : length reply ≤ 4096) whe
   abbrev text : List ℕ
   text = valuesBytes (answerOrder values)
 
-  whole : readReply question reply out ≡ readValues question lengths values out
+  whole : readReply (question c) reply out ≡ readValues (question c) lengths values out
   unfolding readReply
   whole = rw (take-all 4096 reply short)
 
-  module _ (r : ReplyRead) (left : List ℕ) (q : replyRead r left ≡ readReply question reply out) where
+  module _ (r : ReplyRead) (left : List ℕ) (q : replyRead r left ≡ readReply (question c) reply out) where
     of-full : r .answer ≡ read.SmallBuffer → (left ≡ out) × (finishReply (length out) c reply ≡ refusing 6 c)
     of-full e =
         by-test (ltb (length out) (length text))

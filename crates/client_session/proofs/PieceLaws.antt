@@ -1,5 +1,5 @@
 -- What a piece and a failure say.
-use mathlib.Core.Path.{_≡_, refl, sym, ap, _∙_}
+use mathlib.Core.Path.{_≡_, refl, ap, _∙_}
 use mathlib.Core.Bool.{Bool, true, false, cond}
 use mathlib.Core.List.{List, [], _∷_, _++_}
 use Prim.Native.Nat.{ℕ, zero, suc, _+_, _≤_, _<_}
@@ -9,15 +9,14 @@ use lib.ListN.{length, length-append}
 use borrow.Author.Tests.{eq-eqb, ne-eqb, le-ltb, lt-ltb, ltb-true, ltb-false}
 use Rattle.wire.specs.Text.{has, high}
 use Rattle.wire.proofs.Cases.{by-test, from-no}
-use Rattle.client_command.specs.Commands.{setupText}
 use Rattle.client_command.proofs.CommandLaws.{setup-length}
 use Rattle.server_state.specs.declared.FeatureSupport.the-variants as support
 use Rattle.server_state.specs.State.{decided}
 use Rattle.client_session.specs.declared.Under.{Under}
 use Rattle.client_session.specs.declared.Under.the-variants as under
 use Rattle.client_session.specs.Session.{Client, Said, saying, refusing, withUnder, withKnown, withLast, withFraming, withMulti}
-use Rattle.client_session.specs.Piece.{Progress, over, isSeveral, failedClient, failing, sendSetup, setupDone, repeatDone, completed, replyIn, progressed, replyTakes, numbered, pieceNumber, pieceUnder, pieceSays, isAwaited, failureUnder, failureSays}
-use Rattle.client_session.specs.Steps.{isReset, pieceLimit}
+use Rattle.client_session.specs.Piece.{Progress, over, isSeveral, failedClient, failing, sendSetup, setupDone, completed, replyIn, progressed, replyTakes, numbered, pieceNumber, pieceUnder, pieceSays, isAwaited, failureUnder, failureSays}
+use Rattle.client_session.specs.Steps.{turnNumber, replyNumber, isReset, pieceLimit}
 
 -- 7, 8 and 9 in a query of `query_pids`, and elsewhere
 pub failed-several : (c : Client) → isSeveral (c .under) (c .query .several) ≡ true →
@@ -63,6 +62,27 @@ module _ (c : Client) (piece store : List ℕ) where
       unfolding replyTakes
       takes-on e = rw (ne-eqb (length piece) 0 some, le-ltb 4096 (c .got + length piece) fits, e)
 
+  -- by the number that it gets by its bytes
+  pub takes-by : replyTakes c piece store ≡ cond (eqb (replyNumber (c .got) piece store) 0) (progressed (c .under) c (replyIn c store ++ piece)) (failing (replyNumber (c .got) piece store) c)
+  unfolding replyTakes
+  takes-by =
+      by-test (eqb (length piece) 0)
+      (λ e. rw e)
+      (λ e.
+      by-test (ltb 4096 (c .got + length piece))
+      (λ f. rw (e, f))
+      (λ f. by-test (high (replyIn c store ++ piece)) (λ g. rw (e, f, g)) (λ g. rw (e, f, g))))
+
+-- with no such number it fits
+pub fits-by : (got : ℕ) (piece store : List ℕ) → replyNumber got piece store ≡ 0 → got + length piece ≤ 4096
+fits-by got piece store z =
+    by-test (eqb (length piece) 0)
+    (λ e. let w : 7 ≡ 0 = rw e at z in absurd (omega arith))
+    (λ e.
+    by-test (ltb 4096 (got + length piece))
+    (λ f. let w : 8 ≡ 0 = rw (e, f) at z in absurd (omega arith))
+    (λ f. ltb-false 4096 (got + length piece) f))
+
 -- the limit of a piece, and the numbers of an awaited one
 pub limit-reset : (u : Under) → isReset u ≡ true → pieceLimit u ≡ 256
 limit-reset u e = rw e
@@ -83,6 +103,23 @@ module _ (limit : ℕ) (piece : List ℕ) (room store : ℕ) where
 
     pub no-number : 80 ≤ room → 4096 ≤ store → pieceNumber limit piece room store ≡ 0
     no-number h k = rw (le-ltb limit (length piece) short, le-ltb room 80 h, le-ltb store 4096 k)
+
+-- a piece with no number
+pub piece-clear : (u : Under) (limit : ℕ) (piece : List ℕ) (room store : ℕ) → turnNumber u (pieceNumber limit piece room store) ≡ 0 →
+    (isAwaited u ≡ true) × (length piece ≤ limit) × (80 ≤ room) × (4096 ≤ store)
+piece-clear u limit piece room store z =
+    by-test (isAwaited u)
+    (λ t.
+    by-test (ltb limit (length piece))
+    (λ e. let w : 3 ≡ 0 = rw (t, e) at z in absurd (omega arith))
+    (λ e.
+    by-test (ltb room 80)
+    (λ f. let w : 6 ≡ 0 = rw (t, e, f) at z in absurd (omega arith))
+    (λ f.
+    by-test (ltb store 4096)
+    (λ g. let w : 6 ≡ 0 = rw (t, e, f, g) at z in absurd (omega arith))
+    (λ g. (t, ltb-false limit (length piece) e, ltb-false room 80 f, ltb-false store 4096 g)))))
+    (λ t. let w : 1 ≡ 0 = rw t at z in absurd (omega arith))
 
 -- a piece: out of turn, refused by 3 or 6, dropped, and joined to the reply
 module _ (room : ℕ) (c : Client) (piece store : List ℕ) where
@@ -112,6 +149,13 @@ module _ (room : ℕ) (c : Client) (piece store : List ℕ) where
       go under.Repeat e q z = rw (q, z)
       go under.Complete e q z = from-no (cc)
 
+  -- by its number
+  pub piece-numbered : (n : ℕ) → turnNumber (c .under) (pieceNumber (pieceLimit (c .under)) piece room (length store)) ≡ n → eqb n 0 ≡ false → pieceSays room c piece store ≡ refusing n c
+  piece-numbered n e z =
+      by-test (isAwaited (c .under))
+      (λ t. piece-refused n t (rw t at e) z)
+      (λ t. let w : 1 ≡ n = rw t at e in piece-early t ∙ ap (λ k. refusing k c) w)
+
   module _ (out : 80 ≤ room) (fits : 4096 ≤ length store) where
     pub piece-dropped : isReset (c .under) ≡ true → length piece ≤ 256 → pieceSays room c piece store ≡ sendSetup c 0
     unfolding pieceSays
@@ -139,6 +183,13 @@ module _ (room : ℕ) (c : Client) (piece store : List ℕ) where
         go under.Repeat e f = rw (no-number 128 piece room (length store) h out fits)
         go under.Complete e f = from-no (cc)
 
+-- a failure with no number
+pub failure-clear : (u : Under) (room : ℕ) → turnNumber u (cond (ltb room 80) 6 0) ≡ 0 → (isAwaited u ≡ true) × (80 ≤ room)
+failure-clear u room z =
+    by-test (isAwaited u)
+    (λ t. by-test (ltb room 80) (λ f. let w : 6 ≡ 0 = rw (t, f) at z in absurd (omega arith)) (λ f. (t, ltb-false room 80 f)))
+    (λ t. let w : 1 ≡ 0 = rw t at z in absurd (omega arith))
+
 -- a failure: out of turn, refused by 6, and then
 module _ (room : ℕ) (c : Client) where
   pub failure-early : (write : Bool) → isAwaited (c .under) ≡ false → failureSays room c write ≡ refusing 1 c
@@ -148,6 +199,13 @@ module _ (room : ℕ) (c : Client) where
   pub failure-refused : (write : Bool) → isAwaited (c .under) ≡ true → room < 80 → failureSays room c write ≡ refusing 6 c
   unfolding failureSays
   failure-refused write e h = rw (e, lt-ltb room 80 h)
+
+  pub failure-numbered : (write : Bool) (n : ℕ) → turnNumber (c .under) (cond (ltb room 80) 6 0) ≡ n → eqb n 0 ≡ false → failureSays room c write ≡ refusing n c
+  unfolding failureSays
+  failure-numbered write n e z =
+      by-test (isAwaited (c .under))
+      (λ t. let w : cond (ltb room 80) 6 0 ≡ n = rw t at e in rw (t, w, z))
+      (λ t. let w : 1 ≡ n = rw t at e in rw t (ap (λ k. refusing k c) w))
 
   module _ (turn : isAwaited (c .under) ≡ true) (fits : 80 ≤ room) where
     failure-under : (write : Bool) → failureSays room c write ≡ failureUnder (c .under) write c

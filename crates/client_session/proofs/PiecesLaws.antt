@@ -1,13 +1,12 @@
 -- A reply that arrives in pieces: whichever way it is divided, it is complete exactly with its last piece.
 use mathlib.Core.Path.{_≡_, refl, sym, ap, _∙_}
-use mathlib.Core.Bool.{Bool, true, false, cond, _||_}
+use mathlib.Core.Bool.{true, false}
 use mathlib.Core.List.{List, [], _∷_, _++_, append-assoc, append-nil}
 use Prim.Native.Nat.{ℕ, zero, suc, _+_, _≤_, _<_}
 use native.Mathlib.Omega.{arith}
-use lib.Dec.{eqb, leb}
+use lib.Dec.{eqb}
 use lib.ListN.{length, take, length-append}
 use lib.Seq.{sets, length-sets}
-use Rattle.wire.specs.Answer.{Answer, result, refused}
 use Rattle.wire.specs.Put.{Put}
 use Rattle.wire.specs.Text.{has, high}
 use Rattle.wire.proofs.Cases.{by-test, from-no, or-none}
@@ -16,7 +15,7 @@ use Rattle.wire.proofs.TextLaws.{has-append, high-append}
 use Rattle.client_session.specs.declared.Under.{Under}
 use Rattle.client_session.specs.declared.Under.the-variants as under
 use Rattle.client_session.specs.Session.{Client, Said, saying, withUnder}
-use Rattle.client_session.specs.Piece.{Progress, awaited, setupDone, completed, replyIn, progressed, pieceSays, appended, stored, isAwaited}
+use Rattle.client_session.specs.Piece.{Progress, awaited, completed, replyIn, progressed, pieceSays, appended, stored, isAwaited}
 use Rattle.client_session.specs.Pieces.{Fed, feedOn, fed, joined, Sized}
 use Rattle.client_session.specs.Steps.{isReset}
 use Rattle.client_session.proofs.PieceLaws.{takes-on, piece-joined}

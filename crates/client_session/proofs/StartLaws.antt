@@ -1,6 +1,6 @@
 -- What a start says.
 use mathlib.Core.Path.{_≡_, refl, ap}
-use mathlib.Core.Bool.{Bool, true, false, cond}
+use mathlib.Core.Bool.{true, false}
 use mathlib.Core.List.{List, [], _∷_, _++_}
 use Prim.Native.Nat.{ℕ, _+_, _≤_, _<_}
 use native.Mathlib.Omega.{arith}
@@ -13,7 +13,7 @@ use Rattle.query.proofs.QueryLaws.{query-short}
 use Rattle.client_command.specs.Commands.{withCR, framingEffect}
 use Rattle.client_command.proofs.CommandLaws.{cr-length}
 use Rattle.client_session.specs.declared.Under.the-variants as under
-use Rattle.client_session.specs.Session.{Query, Client, Said, saying, refusing, withUnder, withKnown, withLast}
+use Rattle.client_session.specs.Session.{Query, Client, saying, refusing, withUnder, withKnown, withLast}
 use Rattle.client_session.specs.Start.{isNothing, startNumber, started, repeats, newQuery, asking, queryStarted, rawNumber, pidsNumber, initSays, commandSays, queryPidSays, queryPidsSays}
 
 -- the number of a start: 1, its own, 6, and none
@@ -31,10 +31,26 @@ module _ (c : Client) (own room : ℕ) where
     pub start-free : own ≡ 0 → 80 ≤ room → startNumber c own room ≡ 0
     start-free e h = rw (free, eq-eqb own 0 e, le-ltb room 80 h)
 
+-- a start with no number has none of its own
+pub start-own-none : (c : Client) (own room : ℕ) → startNumber c own room ≡ 0 → own ≡ 0
+start-own-none c own room e =
+    by-test (isNothing (c .under))
+    (λ free. by-test (eqb own 0) (λ z. eqb-true own 0 z) (λ z. let w : own ≡ 0 = rw (free, z) at e in w))
+    (λ busy. let w : 1 ≡ 0 = rw busy at e in absurd (omega arith))
+
 -- a start that gets a number
 pub init-refused : (room : ℕ) (c : Client) (n : ℕ) → startNumber c 0 room ≡ n → eqb n 0 ≡ false → initSays room c ≡ refusing n c
 unfolding initSays
 init-refused room c n e z = rw (e, z)
+
+pub init-goes : (room : ℕ) (c : Client) → startNumber c 0 room ≡ 0 → initSays room c ≡ saying tt (withUnder c under.Reset 0) (ascii "ATZ\r")
+unfolding initSays
+init-goes room c e = rw e
+
+pub command-goes : (room : ℕ) (c : Client) (command : List ℕ) → startNumber c (rawNumber command) room ≡ 0 →
+    commandSays room c command ≡ saying tt (withUnder (withKnown c (withLast (c .known) [])) (under.Raw (framingEffect command)) 0) (withCR command)
+unfolding commandSays
+command-goes room c command e = rw e
 
 pub command-refused : (room : ℕ) (c : Client) (command : List ℕ) (n : ℕ) → startNumber c (rawNumber command) room ≡ n → eqb n 0 ≡ false → commandSays room c command ≡ refusing n c
 unfolding commandSays
@@ -51,6 +67,15 @@ module _ (command : List ℕ) where
 
     pub raw-fine : high command ≡ false → rawNumber command ≡ 0
     raw-fine e = rw (le-ltb 64 (length command) short, e)
+
+-- a query of one PID or of several
+pub pid-says : (room : ℕ) (c : Client) (pid count : ℕ) → queryPidSays room c pid count ≡ queryStarted (startNumber c (pidsNumber (pid ∷ [])) room) c (newQuery (pid ∷ []) count false)
+unfolding queryPidSays
+pid-says room c pid count = refl
+
+pub pids-say : (room : ℕ) (c : Client) (pids : List ℕ) (count : ℕ) → queryPidsSays room c pids count ≡ queryStarted (startNumber c (pidsNumber pids) room) c (newQuery pids count true)
+unfolding queryPidsSays
+pids-say room c pids count = refl
 
 -- a query by its number, and by whether it repeats the last one
 pub query-refused : (c : Client) (q : Query) (m n : ℕ) → m ≡ n → eqb n 0 ≡ false → queryStarted m c q ≡ refusing n c
@@ -73,6 +98,12 @@ pids-none pids e = rw (eq-eqb (length pids) 0 e)
 
 pub pids-many : (pids : List ℕ) → 6 < length pids → pidsNumber pids ≡ 2
 pids-many pids h = rw (ne-eqb (length pids) 0 (λ e. omega arith), lt-ltb 6 (length pids) h)
+
+pub pids-six : (pids : List ℕ) → pidsNumber pids ≡ 0 → length pids ≤ 6
+pids-six pids e =
+    by-test (ltb 6 (length pids))
+    (λ t. let two = pids-many pids (ltb-true 6 (length pids) t) in absurd (omega arith))
+    (λ t. ltb-false 6 (length pids) t)
 
 pub pids-few : (pids : List ℕ) → (length pids ≡ 0 → ⊥) → length pids ≤ 6 → pidsNumber pids ≡ 0
 pids-few pids ne h = rw (ne-eqb (length pids) 0 ne, le-ltb 6 (length pids) h)
@@ -113,7 +144,7 @@ module _ (room : ℕ) (c : Client) where
       (λ e. rw (free, e, e) (omega arith)))
       (λ busy. rw busy (omega arith))
 
-  query-fits : (own : ℕ) (q : Query) → (own ≡ 0 → length (q .text) ≤ 79) → length (queryStarted (startNumber c own room) c q .text) ≤ room
+  pub query-fits : (own : ℕ) (q : Query) → (own ≡ 0 → length (q .text) ≤ 79) → length (queryStarted (startNumber c own room) c q .text) ≤ room
   query-fits own q short =
       by-test (repeats (c .known) (q .text))
       (λ e. rw e (started-fits own (asking c q under.Repeat) (13 ∷ []) (λ z. omega arith)))
@@ -137,7 +168,4 @@ module _ (room : ℕ) (c : Client) where
   unfolding queryPidsSays
   pids-fits pids count =
       query-fits (pidsNumber pids) (newQuery pids count true)
-      (λ z.
-      by-test (ltb 6 (length pids))
-      (λ e. let two = pids-many pids (ltb-true 6 (length pids) e) in absurd (omega arith))
-      (λ e. omega (arith, query-short pids count (ltb-false 6 (length pids) e))))
+      (λ z. omega (arith, query-short pids count (pids-six pids z)))

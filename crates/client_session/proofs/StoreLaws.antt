@@ -1,7 +1,7 @@
 -- The store: what a piece leaves of it.
 use mathlib.Core.Path.{_≡_, refl, sym, ap, _∙_}
-use mathlib.Core.Bool.{Bool, true, false, cond}
-use mathlib.Core.List.{List, [], _∷_, _++_}
+use mathlib.Core.Bool.{Bool, true, false}
+use mathlib.Core.List.{List, _++_}
 use Prim.Native.Nat.{ℕ, zero, suc, _+_, _≤_}
 use native.Mathlib.Omega.{arith}
 use lib.ListN.{length, take, drop, length-append, length-take}
@@ -13,7 +13,7 @@ use Rattle.wire.proofs.Cases.{by-test, from-no}
 use Rattle.client_session.specs.declared.Under.{Under}
 use Rattle.client_session.specs.declared.Under.the-variants as under
 use Rattle.client_session.specs.Session.{Client, Said}
-use Rattle.client_session.specs.Piece.{Progress, awaited, sent, over, complete, setupDone, repeatDone, completed, replyIn, progressed, appended, stored, isAwaited}
+use Rattle.client_session.specs.Piece.{Progress, awaited, sent, over, complete, setupDone, completed, replyIn, progressed, appended, stored, isAwaited}
 use Rattle.client_session.specs.Steps.{isReset}
 
 -- the reply so far, with a piece appended, stands at the front of the store

@@ -57,8 +57,8 @@ abbrev pub client : ClientSession → Client
 client s = record {
   known = knownIn (s .«want_framing») (s .server) (s .last);
   query = record { text = text (s .query); pids = take (s .«pids_len») (s .pids); several = s .several };
-  under = s .under;
-  got = s .got;
+  under = s .turn .under;
+  got = s .turn .got;
 }
 
 -- a new session: framing as asked for is off until it is set; repeat is untested, or off for good

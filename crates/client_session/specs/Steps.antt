@@ -1,21 +1,25 @@
 -- What the private steps of the code do. No public contract cites these.
 use mathlib.Core.Path.{_≡_}
 use mathlib.Core.Bool.{Bool, true, false, cond}
-use mathlib.Core.List.{List}
-use Prim.Native.Nat.{ℕ, _≤_}
-use lib.ListN.{length}
+use mathlib.Core.List.{List, _++_}
+use Prim.Native.Nat.{ℕ, _+_, _≤_}
+use lib.Dec.{eqb, ltb}
+use lib.ListN.{length, take}
+use Rattle.wire.specs.Answer.{Answer, result, refused}
 use Rattle.wire.specs.Put.{Put}
-use Rattle.query_text.specs.declared.QueryText.{QueryText}
-use Rattle.server_state.specs.declared.ServerState.{ServerState}
+use Rattle.wire.specs.Text.{high}
+use Rattle.reply_values.specs.Read.{Asked, asked}
 use Rattle.client_session.specs.declared.Under.{Under}
 use Rattle.client_session.specs.declared.Under.the-variants as under
 use Rattle.client_session.specs.declared.ClientSession.{ClientSession}
 use Rattle.client_session.specs.declared.StartAnswer.{StartAnswer}
+use Rattle.client_session.specs.declared.StartAnswer.the-variants as start
 use Rattle.client_session.specs.declared.StartStep.{StartStep}
 use Rattle.client_session.specs.declared.PieceAnswer.{PieceAnswer}
 use Rattle.client_session.specs.declared.PieceStep.{PieceStep}
-use Rattle.client_session.specs.Session.{Query, Client, client, knownIn, Said, Served}
-use Rattle.client_session.specs.Piece.{Progress, isAwaited, appended, pieceServed}
+use Rattle.client_session.specs.Session.{Client, client, Said, Served}
+use Rattle.client_session.specs.Piece.{Progress, failing, isAwaited, appended, pieceServed}
+use Rattle.client_session.specs.Finish.{finishReply}
 
 -- A call does what is said, and writes from the front of the out buffer on as far as it reaches.
 pub record Does {A : Type 0} (d : Said A) (out : List ℕ) (s : Served A) : Type 0 where
@@ -23,10 +27,16 @@ pub record Does {A : Type 0} (d : Said A) (out : List ℕ) (s : Served A) : Type
   pub next : s .next ≡ d .next
   pub text : Put out 0 (d .text) (s .written) (s .out)
 
--- A call ends with an answer and a session, and sends nothing.
-pub record Ends (c : Client) (a : PieceAnswer) (r : PieceStep) : Type 0 where
+-- A start sends so many bytes, and leaves this session.
+pub record Starts (c : Client) (n : ℕ) (r : StartStep) : Type 0 where
+  pub answer : r .answer ≡ start.Sent
+  pub written : r .written ≡ n
+  pub next : client (r .session) ≡ c
+
+-- A piece or failure gives an answer, sends so many bytes, and leaves this session.
+pub record Ends (c : Client) (a : PieceAnswer) (n : ℕ) (r : PieceStep) : Type 0 where
   pub answer : r .answer ≡ a
-  pub written : r .written ≡ 0
+  pub written : r .written ≡ n
   pub next : client (r .session) ≡ c
 
 -- A piece of a reply that gets none of the caller's numbers.
@@ -53,9 +63,26 @@ isReset under.Complete = false
 abbrev pub pieceLimit : Under → ℕ
 pieceLimit u = cond (isReset u) 256 128
 
--- the session with another state of what is under way, another server state and last query
-abbrev pub rebuilt : Bool → Query → Under → ℕ → ServerState → QueryText → Client
-rebuilt wanted q u n s last = record { known = knownIn wanted s last; query = q; under = u; got = n }
+-- the answer that a number alone gives: with none it is the result
+abbrev pub byNumber : {A : Type 0} → A → ℕ → Answer A
+byNumber a n = cond (eqb n 0) (result a) (refused n)
+
+-- the number of a piece or failure: 1 out of turn
+abbrev pub turnNumber : Under → ℕ → ℕ
+turnNumber u n = cond (isAwaited u) n 1
+
+-- the number that a piece gets by its bytes, where the store holds so many of the reply
+abbrev pub replyNumber : ℕ → List ℕ → List ℕ → ℕ
+replyNumber got piece store =
+    cond (eqb (length piece) 0) 7 (cond (ltb 4096 (got + length piece)) 8 (cond (high (take got (take 4096 store) ++ piece)) 9 0))
+
+-- what a finish asks of the reply
+abbrev pub question : Client → Asked
+question c = asked (c .known .framing) (c .query .several) (c .query .pids) (c .known .lengths) (c .known .counts)
+
+-- a finish of the reply that the store holds
+abbrev pub finishStored : ℕ → Client → List ℕ → Said ℕ
+finishStored room c reply = cond (high reply) (failing 9 c) (finishReply room c reply)
 
 -- nothing is sent, and the session stays
 abbrev pub unstarted : ClientSession → StartAnswer → StartStep

@@ -8,9 +8,9 @@ use query_text::QueryText;
 use server_state::FeatureSupport;
 use server_state::ServerState;
 ghost use mathlib.Core.Path.{_≡_};
-ghost use Rattle.client_session.specs.Session.{client, freshClient, withUnder};
+ghost use mathlib.Core.List.{[]};
+ghost use Rattle.client_session.specs.Session.{client, freshClient, withUnder, withKnown, withLast};
 ghost use Rattle.client_session.specs.Piece.{isSeveral, failedClient};
-ghost use Rattle.client_session.specs.Steps.{rebuilt};
 
 // What is under way.
 pub enum Under {
@@ -28,6 +28,12 @@ pub enum Under {
     Complete,
 }
 
+// What is under way, and how many bytes of its reply the store holds.
+pub struct Turn {
+    pub under: Under,
+    pub got: usize,
+}
+
 pub struct ClientSession {
     // The initialisation asks for CAN headers.
     pub want_framing: bool,
@@ -40,9 +46,7 @@ pub struct ClientSession {
     pub pids: [u8; 6],
     pub pids_len: usize,
     pub several: bool,
-    pub under: Under,
-    // How many bytes of the reply the store holds.
-    pub got: usize,
+    pub turn: Turn,
 }
 
 // What a start says.
@@ -129,13 +133,10 @@ fn is_several(under: Under, several: bool) -> bool
     ensures { λ r. ⌜ r ≡ isSeveral under several ⌝ }
 {
     match under {
-        Under::Nothing => false,
-        Under::Reset => false,
-        Under::Setup(_) => false,
-        Under::Raw(_) => false,
         Under::Query => several,
         Under::Repeat => several,
         Under::Complete => several,
+        _ => false,
     }
 }
 
@@ -152,51 +153,42 @@ impl ClientSession {
             pids: [0; 6],
             pids_len: 0,
             several: false,
-            under: Under::Nothing,
-            got: 0,
+            turn: Turn {
+                under: Under::Nothing,
+                got: 0,
+            },
         }
     }
 
-    // The session with another state of what is under way, another server state and last query.
-    fn with(self, under: Under, got: usize, server: ServerState, last: QueryText) -> ClientSession
-        ensures { λ r. ⌜ client r ≡ rebuilt (self .«want_framing») (client self .query) under got server last ⌝ }
-    {
-        let query = self.query;
-        let pids = self.pids;
-        ClientSession {
-            want_framing: self.want_framing,
-            server,
-            last,
-            query,
-            pids,
-            pids_len: self.pids_len,
-            several: self.several,
-            under,
-            got,
-        }
-    }
-
-    fn moved(self, under: Under, got: usize) -> ClientSession
+    fn moved(mut self, under: Under, got: usize) -> ClientSession
         ensures { λ r. ⌜ client r ≡ withUnder (client self) under got ⌝ }
     {
-        let server = self.server;
-        let last = self.last;
-        self.with(under, got, server, last)
+        let turn = Turn { under, got };
+        self.turn = turn;
+        self
+    }
+
+    // The command under way is over, and the last query is forgotten.
+    fn forgets(mut self) -> ClientSession
+        ensures { λ r. ⌜ client r ≡ withUnder (withKnown (client self) (withLast (client self .known) [])) Under.Nothing 0 ⌝ }
+    {
+        self.last.len = 0;
+        self.moved(Under::Nothing, 0)
     }
 
     // The session after 7, 8 or 9.
-    fn failed(self) -> ClientSession
+    fn failed(mut self) -> ClientSession
         ensures { λ r. ⌜ client r ≡ failedClient (client self) ⌝ }
     {
-        let under = self.under;
-        let server = self.server;
-        let mut last = self.last;
-        last.len = 0;
+        let turn = self.turn;
+        let under = turn.under;
         if is_several(under, self.several) {
+            let server = self.server;
             let multi_pid = server.multi_pid;
-            let decided = multi_pid.decide(FeatureSupport::No);
-            return self.with(Under::Nothing, 0, server.with_multi_pid(decided), last);
+            let decided = server.with_multi_pid(multi_pid.decide(FeatureSupport::No));
+            self.server = decided;
+            return self.forgets();
         }
-        self.with(Under::Nothing, 0, server, last)
+        self.forgets()
     }
 }

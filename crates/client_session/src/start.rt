@@ -5,26 +5,70 @@ use crate::StartStep;
 use crate::Under;
 use query::EcuCount;
 use query_text::QueryText;
+use server_state::FeatureSupport;
 ghost use mathlib.Core.Path.{_≡_};
+ghost use mathlib.Core.Bool.{_&&_};
 ghost use Prim.Native.Nat.{_≤_};
 ghost use lib.ListN.{length};
+ghost use Rattle.wire.specs.Text.{same};
 ghost use Rattle.query.specs.Query.{countOf};
-ghost use Rattle.client_session.specs.Session.{client, lent, withQuery};
-ghost use Rattle.client_session.specs.Start.{isNothing, repeats, newQuery, queryStarted, initSays, commandSays, queryPidSays, queryPidsSays, startServed};
-ghost use Rattle.client_session.specs.Steps.{Does, unstarted};
+ghost use Rattle.query_text.specs.Text.{text};
+ghost use Rattle.server_state.specs.State.{mayTry};
+ghost use Rattle.client_session.specs.Session.{Client, client, lent, withUnder, withQuery};
+ghost use Rattle.client_session.specs.Start.{startNumber, rawNumber, newQuery, pidsNumber, queryStarted, initSays, commandSays, queryPidSays, queryPidsSays, startAnswer, startServed};
+ghost use Rattle.client_session.specs.Steps.{Does, Starts, byNumber, unstarted};
 
-fn is_nothing(under: Under) -> bool
-    ensures { λ r. ⌜ r ≡ isNothing under ⌝ }
+// The answer to a start that has no number of its own.
+fn start_answer(under: Under, room: usize) -> StartAnswer
+    ensures { λ r. ⌜ ((c : Client) → c .under ≡ under → startAnswer r ≡ byNumber tt (startNumber c 0 room)) ⌝ }
 {
-    match under {
-        Under::Nothing => true,
-        Under::Reset => false,
-        Under::Setup(_) => false,
-        Under::Raw(_) => false,
-        Under::Query => false,
-        Under::Repeat => false,
-        Under::Complete => false,
+    if let Under::Nothing = under {
+        if room < 80 {
+            return StartAnswer::SmallBuffer;
+        }
+        return StartAnswer::Sent;
     }
+    StartAnswer::OutOfTurn
+}
+
+fn raw_answer(under: Under, command: &[u8], room: usize) -> StartAnswer
+    ensures { λ r. ⌜ ((c : Client) → c .under ≡ under → startAnswer r ≡ byNumber tt (startNumber c (rawNumber (now (command .entry))) room)) ⌝ }
+{
+    if let Under::Nothing = under {
+        if 64 < command.len() {
+            return StartAnswer::TooLong;
+        }
+        if wire::has_high(command) {
+            return StartAnswer::NotAscii;
+        }
+        return start_answer(under, room);
+    }
+    StartAnswer::OutOfTurn
+}
+
+fn query_answer(under: Under, pids: &[u8], room: usize) -> StartAnswer
+    ensures { λ r. ⌜ ((c : Client) → c .under ≡ under → startAnswer r ≡ byNumber tt (startNumber c (pidsNumber (now (pids .entry))) room)) ⌝ }
+{
+    if let Under::Nothing = under {
+        if pids.len() == 0 {
+            return StartAnswer::PidCount;
+        }
+        if 6 < pids.len() {
+            return StartAnswer::PidCount;
+        }
+        return start_answer(under, room);
+    }
+    StartAnswer::OutOfTurn
+}
+
+// Whether a query equals the last one, which a bare CR may repeat.
+fn repeats(repeat: FeatureSupport, last: QueryText, query: QueryText) -> bool
+    ensures { λ r. ⌜ r ≡ (mayTry repeat && same (text last) (text query)) ⌝ }
+{
+    if repeat.may_try() {
+        return last.is(query);
+    }
+    false
 }
 
 impl ClientSession {
@@ -39,52 +83,45 @@ impl ClientSession {
         }
     }
 
+    // So many bytes of out are to be sent, and the reply to them is awaited.
+    fn starts(self, under: Under, written: usize) -> StartStep
+        ensures { λ r. ⌜ Starts (withUnder (client self) under 0) written r ⌝ }
+    {
+        StartStep {
+            answer: StartAnswer::Sent,
+            written,
+            session: self.moved(under, 0),
+        }
+    }
+
     // Starts the initialisation: ATZ goes out. It is no raw command, and forgets nothing.
     pub fn init(self, out: &mut [u8]) -> StartStep
         ensures { λ r. ⌜ startServed r (now (out .exit)) ≡ lent (initSays (length (now (out .entry))) (client self)) (now (out .entry)) ⌝ }
     {
-        let under = self.under;
-        if !is_nothing(under) {
-            return self.unstarted(StartAnswer::OutOfTurn);
+        let turn = self.turn;
+        let under = turn.under;
+        let answer = start_answer(under, out.len());
+        if let StartAnswer::Sent = answer {
+            let written = wire::put(out, 0, b"ATZ\r");
+            return self.starts(Under::Reset, written);
         }
-        if out.len() < 80 {
-            return self.unstarted(StartAnswer::SmallBuffer);
-        }
-        let written = wire::put(out, 0, b"ATZ\r");
-        StartStep {
-            answer: StartAnswer::Sent,
-            written,
-            session: self.moved(Under::Reset, 0),
-        }
+        self.unstarted(answer)
     }
 
     // Starts a raw command. The last query is forgotten, since a bare CR would now repeat this command.
-    pub fn command(self, command: &[u8], out: &mut [u8]) -> StartStep
+    pub fn command(mut self, command: &[u8], out: &mut [u8]) -> StartStep
         ensures { λ r. ⌜ startServed r (now (out .exit)) ≡ lent (commandSays (length (now (out .entry))) (client self) (now (command .entry))) (now (out .entry)) ⌝ }
     {
-        let under = self.under;
-        if !is_nothing(under) {
-            return self.unstarted(StartAnswer::OutOfTurn);
+        let turn = self.turn;
+        let under = turn.under;
+        let answer = raw_answer(under, command, out.len());
+        if let StartAnswer::Sent = answer {
+            self.last.len = 0;
+            let written = client_command::put_command(out, 0, command);
+            let effect = client_command::framing_effect(command);
+            return self.starts(Under::Raw(effect), written);
         }
-        if 64 < command.len() {
-            return self.unstarted(StartAnswer::TooLong);
-        }
-        if wire::has_high(command) {
-            return self.unstarted(StartAnswer::NotAscii);
-        }
-        if out.len() < 80 {
-            return self.unstarted(StartAnswer::SmallBuffer);
-        }
-        let written = client_command::put_command(out, 0, command);
-        let effect = client_command::framing_effect(command);
-        let server = self.server;
-        let mut last = self.last;
-        last.len = 0;
-        StartStep {
-            answer: StartAnswer::Sent,
-            written,
-            session: self.with(Under::Raw(effect), 0, server, last),
-        }
+        self.unstarted(answer)
     }
 
     // The session with a query of at most six PIDs, to be sent.
@@ -100,75 +137,46 @@ impl ClientSession {
         self
     }
 
-    // Whether the query equals the last one, which a bare CR may repeat.
-    fn repeats(self) -> bool
-        ensures { λ r. ⌜ r ≡ repeats (client self .known) (client self .query .text) ⌝ }
+    // The query goes out, in full or as a bare CR.
+    fn ask(self, out: &mut [u8]) -> StartStep
+        ensures { λ r. ⌜ Does (queryStarted 0 (client self) (client self .query)) (now (out .entry)) (startServed r (now (out .exit))) ⌝ }
     {
         let server = self.server;
         let repeat = server.repeat;
-        if !repeat.may_try() {
-            return false;
-        }
-        let last = self.last;
         let query = self.query;
-        last.is(query)
+        if repeats(repeat, self.last, query) {
+            let written = wire::put_byte(out, 0, b'\r');
+            return self.starts(Under::Repeat, written);
+        }
+        let written = query.put_line(out, 0);
+        self.starts(Under::Query, written)
     }
 
-    // A query goes out, in full or as a bare CR.
-    fn ask(self, pids: &[u8], count: EcuCount, several: bool, out: &mut [u8]) -> StartStep
-        requires { ⌜ length (now pids) ≤ 6 ⌝ }
-        ensures { λ r. ⌜ Does (queryStarted 0 (client self) (newQuery (now (pids .entry)) (countOf count) several)) (now (out .entry)) (startServed r (now (out .exit))) ⌝ }
+    // Starts a query.
+    fn start_query(self, pids: &[u8], count: EcuCount, several: bool, out: &mut [u8]) -> StartStep
+        ensures { λ r. ⌜ startServed r (now (out .exit)) ≡ lent (queryStarted (startNumber (client self) (pidsNumber (now (pids .entry))) (length (now (out .entry)))) (client self) (newQuery (now (pids .entry)) (countOf count) several)) (now (out .entry)) ⌝ }
     {
-        let next = self.with_query(pids, count, several);
-        if next.repeats() {
-            let written = wire::put_byte(out, 0, b'\r');
-            return StartStep {
-                answer: StartAnswer::Sent,
-                written,
-                session: next.moved(Under::Repeat, 0),
-            };
+        let turn = self.turn;
+        let under = turn.under;
+        let answer = query_answer(under, pids, out.len());
+        if let StartAnswer::Sent = answer {
+            return self.with_query(pids, count, several).ask(out);
         }
-        let query = next.query;
-        let written = query.put_line(out, 0);
-        StartStep {
-            answer: StartAnswer::Sent,
-            written,
-            session: next.moved(Under::Query, 0),
-        }
+        self.unstarted(answer)
     }
 
     // Starts a query of one PID, with the number of ECUs that it waits for.
     pub fn query_pid(self, pid: u8, count: EcuCount, out: &mut [u8]) -> StartStep
         ensures { λ r. ⌜ startServed r (now (out .exit)) ≡ lent (queryPidSays (length (now (out .entry))) (client self) pid (countOf count)) (now (out .entry)) ⌝ }
     {
-        let under = self.under;
-        if !is_nothing(under) {
-            return self.unstarted(StartAnswer::OutOfTurn);
-        }
-        if out.len() < 80 {
-            return self.unstarted(StartAnswer::SmallBuffer);
-        }
         let pids = [pid];
-        self.ask(&pids, count, false, out)
+        self.start_query(&pids, count, false, out)
     }
 
     // Starts a query of one to six PIDs. The first such query decides multi-PID support.
     pub fn query_pids(self, pids: &[u8], count: EcuCount, out: &mut [u8]) -> StartStep
         ensures { λ r. ⌜ startServed r (now (out .exit)) ≡ lent (queryPidsSays (length (now (out .entry))) (client self) (now (pids .entry)) (countOf count)) (now (out .entry)) ⌝ }
     {
-        let under = self.under;
-        if !is_nothing(under) {
-            return self.unstarted(StartAnswer::OutOfTurn);
-        }
-        if pids.len() == 0 {
-            return self.unstarted(StartAnswer::PidCount);
-        }
-        if 6 < pids.len() {
-            return self.unstarted(StartAnswer::PidCount);
-        }
-        if out.len() < 80 {
-            return self.unstarted(StartAnswer::SmallBuffer);
-        }
-        self.ask(pids, count, true, out)
+        self.start_query(pids, count, true, out)
     }
 }

@@ -171,7 +171,8 @@ fn put_state(session: ClientSession, arg: &[u8], log: &mut [u8], at: usize) -> u
     ensures { λ r. ⌜ Put (now (log .entry)) at (stateEntry (client session) (now (arg .entry))) r (now (log .exit)) ⌝ }
 {
     let server = session.server;
-    let under = session.under;
+    let turn = session.turn;
+    let under = turn.under;
     let first = [
         crate::flag(server.framing()),
         support_code(server.repeat()),
@@ -187,7 +188,7 @@ fn put_state(session: ClientSession, arg: &[u8], log: &mut [u8], at: usize) -> u
 fn put_reply(session: ClientSession, store: &[u8], log: &mut [u8], at: usize) -> usize
     ensures { λ r. ⌜ Put (now (log .entry)) at (textEntry (take (client session .got) (now (store .entry)))) r (now (log .exit)) ⌝ }
 {
-    let size = wire::at_most(session.got, store.len());
+    let size = wire::at_most(session.turn.got, store.len());
     crate::put_text(log, at, &store[..size])
 }
 

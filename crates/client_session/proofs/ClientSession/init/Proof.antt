@@ -1,37 +1,20 @@
 -- `client_session::ClientSession::init` meets its contract.
-use mathlib.Core.Path.{refl, sym, _∙_}
-use native.Mathlib.Omega.{arith}
+use mathlib.Core.Path.{refl, sym, ap, _∙_}
 use lib.ListN.{length}
-use borrow.Author.Tests.{not-true, not-false}
-use borrow.Author.Needs.{needs}
-use Rattle.client_session.proofs.StartLaws.{init-starts, init-refused, start-early, start-small}
-use Rattle.client_session.proofs.StepLaws.{does-lent, unstarted-lent}
 use Rattle.client_session.specs.Session.{client}
+use Rattle.client_session.specs.Start.{startNumber, startAnswer}
+use Rattle.client_session.proofs.StartLaws.{init-goes, init-refused, init-fits}
+use Rattle.client_session.proofs.StepLaws.{does-lent, does-as, does-starts, unstarted-lent, by-result}
+use Rattle.client_session.proofs.UnderLaws.{not-sent}
+use borrow.Author.Needs.{needs}
 use Rattle.client_session.proofs.ClientSession.init.Statement.{statement}
 use Rattle.client_session.proofs.ClientSession.init.Tie as tie
 
-is-nothing-requires : tie.Need-is-nothing-requires
-is-nothing-requires c κs = search needs
+start-answer-requires : tie.Need-start-answer-requires
+start-answer-requires c κs = search needs
 
-unstarted-requires : tie.Need-unstarted-requires
-unstarted-requires c κs = search needs
-
-returns : tie.Need-returns
-returns c = let s = c .before .before .before .before in
-    let k = client (s .args .self) in
-    let room = length (s .args .out .now) in
-    let busy = sym (c .before .before .is-nothing .ensures) ∙ not-true _ (c .before .if1 .taken) in
-    rw (init-refused room k 1 (start-early k 0 room busy) refl) (unstarted-lent (c .unstarted .ensures) refl)
-
-unstarted-requires-2 : tie.Need-unstarted-requires-2
-unstarted-requires-2 c κs = search needs
-
-returns-2 : tie.Need-returns-2
-returns-2 c = let s = c .before .before .before .before .before in
-    let k = client (s .args .self) in
-    let room = length (s .args .out .now) in
-    let free = sym (c .before .before .before .is-nothing .ensures) ∙ not-false _ (c .before .before .if1 .left) in
-    rw (init-refused room k 6 (start-small k 0 room free refl (c .before .if2 .taken)) refl) (unstarted-lent (c .unstarted2 .ensures) refl)
+enum-told : tie.Need-enum-told
+enum-told c = search needs
 
 slice-aggregate-put : tie.Need-slice-aggregate-put
 slice-aggregate-put c = search needs
@@ -39,31 +22,38 @@ slice-aggregate-put c = search needs
 put-requires : tie.Need-put-requires
 put-requires c κs = search needs
 
-moved-requires : tie.Need-moved-requires
-moved-requires c κs = search needs
+starts-requires : tie.Need-starts-requires
+starts-requires c κs = search needs
 
 same-length : tie.Need-same-length
 same-length c = search needs
 
-returns-3 : tie.Need-returns-3
-returns-3 c = let s = c .before .before .before .before .before .before .before .before .before .before in
-    let k = client (s .args .self) in
-    let room = length (s .args .out .now) in
-    let free = sym (c .before .before .before .before .before .before .before .before .is-nothing .ensures) ∙ not-false _ (c .before .before .before .before .before .before .before .if1 .left) in
-    rw (init-starts room k free (c .before .before .before .before .before .before .if2 .left))
-    (does-lent (record { answer = refl; next = c .moved .ensures; text = c .before .before .before .put .ensures }) (omega arith))
+returns : tie.Need-returns
+returns c = let k = client (c .before .before .before .before .before .before .before .before .before .before .before .args .self) in
+    let room = length (c .before .before .before .before .before .before .before .before .before .before .before .args .out .now) in
+    let z = by-result tt tt (startNumber k 0 room) (sym (ap startAnswer (c .before .before .before .before .before .before .enum-told .given .1)) ∙ c .before .before .before .before .before .before .before .before .start-answer .ensures k refl) in
+    does-lent (does-as (init-goes room k z) (does-starts (c .starts .ensures) (c .before .before .before .put .ensures))) (init-fits room k)
+
+unstarted-requires : tie.Need-unstarted-requires
+unstarted-requires c κs = search needs
+
+returns-2 : tie.Need-returns-2
+returns-2 c = let k = client (c .before .before .before .before .before .args .self) in
+    let room = length (c .before .before .before .before .before .args .out .now) in
+    let n = startNumber k 0 room in
+    let (z, e) = not-sent (c .before .before .start-answer .result) n (c .before .match .keys2) (c .before .before .start-answer .ensures k refl) in
+    rw (init-refused room k n refl z) (unstarted-lent (c .unstarted .ensures) e)
 
 pub init-spec : {M : Type 1} → statement M
 init-spec =
     tie.close
     (tie.spec
-    is-nothing-requires
-    unstarted-requires
-    returns
-    unstarted-requires-2
-    returns-2
+    start-answer-requires
+    enum-told
     slice-aggregate-put
     put-requires
-    moved-requires
+    starts-requires
     same-length
-    returns-3)
+    returns
+    unstarted-requires
+    returns-2)

@@ -19,7 +19,7 @@ same-length : tie.Need-same-length
 same-length c = search needs
 
 returns : tie.Need-returns
-returns c = rw (← take-within (c .before .before .before .before .before .before .before .before .args .session .got) _ (c .before .before .before .before .before .before .before .before .args .store .now) (c .before .before .before .before .before .at-most .ensures)) (c .before .before .put-text .ensures)
+returns c = rw (← take-within (c .before .before .before .before .before .before .before .before .args .session .turn .got) _ (c .before .before .before .before .before .before .before .before .args .store .now) (c .before .before .before .before .before .at-most .ensures)) (c .before .before .put-text .ensures)
 
 pub put-reply-spec : {M : Type 1} → statement M
 put-reply-spec =
