@@ -17,7 +17,7 @@ use Rattle.reply.specs.Reply.{spaceIf, furtherHex, dataHex, header, line
 use Rattle.reply.specs.Answers.{sizeWith, replySize}
 use Rattle.reply.proofs.TextLaws.{no-lines}
 
-further-length : (spaces : Bool) (s : List ℕ) → length (furtherHex spaces s) ≡ (2 + length (spaceIf spaces)) * length s
+pub further-length : (spaces : Bool) (s : List ℕ) → length (furtherHex spaces s) ≡ (2 + length (spaceIf spaces)) * length s
 further-length spaces [] = omega arith
 further-length spaces (b ∷ s) =
     length-append (spaceIf spaces) (hexByte b ++ furtherHex spaces s) ∙ rw (further-length spaces s, mul-suc) (omega arith)

@@ -2,7 +2,7 @@
 use line_list::LineCursor;
 use line_list::LineStep;
 ghost use mathlib.Core.Path.{_≡_};
-ghost use mathlib.Core.Bool.{cond};
+ghost use mathlib.Core.Bool.{true, false, cond};
 ghost use mathlib.Core.List.{List, [], _∷_, map};
 ghost use Prim.Native.Nat.{ℕ, _+_, _≤_};
 ghost use lib.ListN.{length};
@@ -11,8 +11,9 @@ ghost use Rattle.group.specs.Group.{got};
 ghost use Rattle.client_state.specs.Settings.{lineEnding};
 ghost use Rattle.line_list.specs.Lines.{Line, line, lineList};
 ghost use Rattle.reply.specs.Shape.{chipReply};
-ghost use Rattle.reply.specs.Reply.{ecuId, spaceIf, dataHex, header, lineText};
+ghost use Rattle.reply.specs.Reply.{ecuId, spaceIf, furtherHex, dataHex, header, lineText};
 ghost use Rattle.reply.specs.Answers.{lent, replied, sizeAnswer, replySize};
+ghost use Rattle.reply.specs.Steps.{Room};
 
 pub enum ReplyAnswer {
     // So many bytes stand at the front of out.
@@ -77,24 +78,58 @@ fn put_header(out: &mut [u8], at: usize, ecu: u16, payload: &[u8], spaces: bool)
     put_space(out, at, spaces)
 }
 
-// Data in capital hex.
+// Further bytes with a space before each, where there is room. The digits are read from a table, since the machine cannot join these stores.
+fn put_spaced(out: &mut [u8], at: usize, further: &[u8]) -> usize
+    requires { ⌜ at + length (furtherHex true (now further)) ≤ length (now out) ⌝ }
+    ensures { λ r. ⌜ Put (now (out .entry)) at (furtherHex true (now (further .entry))) r (now (out .exit)) ⌝ }
+{
+    let digits = b"0123456789ABCDEF";
+    let mut to = at;
+    let mut i: usize = 0;
+    while i < further.len() {
+        let byte = further[i];
+        out[to] = b' ';
+        out[to + 1] = digits[(byte / 16) as usize];
+        out[to + 2] = digits[(byte % 16) as usize];
+        to += 3;
+        i += 1;
+    }
+    to
+}
+
+// Further bytes with nothing before them, where there is room. The digits are computed, so that the machine can make many in one step.
+fn put_joined(out: &mut [u8], at: usize, further: &[u8]) -> usize
+    requires { ⌜ at + length (furtherHex false (now further)) ≤ length (now out) ⌝ }
+    ensures { λ r. ⌜ Put (now (out .entry)) at (furtherHex false (now (further .entry))) r (now (out .exit)) ⌝ }
+{
+    let mut to = at;
+    let mut i: usize = 0;
+    while i < further.len() {
+        let byte = further[i];
+        out[to] = hex::hex_char(byte / 16);
+        out[to + 1] = hex::hex_char(byte);
+        to += 2;
+        i += 1;
+    }
+    to
+}
+
+// Data in capital hex, where there is room.
 fn put_data(out: &mut [u8], at: usize, payload: &[u8], spaces: bool) -> usize
+    requires { ⌜ at + length (dataHex spaces (now payload)) ≤ length (now out) ⌝ }
     ensures { λ r. ⌜ Put (now (out .entry)) at (dataHex spaces (now (payload .entry))) r (now (out .exit)) ⌝ }
 {
     if payload.len() == 0 {
         return at;
     }
-    let mut at = hex::put_hex_byte(out, at, payload[0]);
-    let mut i: usize = 1;
-    while i < payload.len() {
-        at = put_space(out, at, spaces);
-        at = hex::put_hex_byte(out, at, payload[i]);
-        i += 1;
+    let next = hex::put_hex_byte(out, at, payload[0]);
+    if spaces {
+        return put_spaced(out, next, &payload[1..]);
     }
-    at
+    put_joined(out, next, &payload[1..])
 }
 
-// A line, without its ending.
+// A line, without its ending, where there is room.
 fn put_line_text(
     out: &mut [u8],
     at: usize,
@@ -103,6 +138,7 @@ fn put_line_text(
     spaces: bool,
     headers: bool,
 ) -> usize
+    requires { ⌜ at + length (lineText spaces headers (line ecu (now payload))) ≤ length (now out) ⌝ }
     ensures { λ r. ⌜ Put (now (out .entry)) at (lineText spaces headers (line ecu (now (payload .entry)))) r (now (out .exit)) ⌝ }
 {
     if headers {
@@ -191,8 +227,9 @@ fn reply_size(list: &[u8], linefeeds: bool, spaces: bool, headers: bool) -> Repl
     }
 }
 
-// The lines of a well-formed list, then the prompt, from the start of out on.
+// The lines of a well-formed list, then the prompt, from the start of out on, where there is room for them.
 fn write_lines(list: &[u8], linefeeds: bool, spaces: bool, headers: bool, out: &mut [u8]) -> usize
+    requires { ⌜ Room linefeeds spaces headers (now list) (now out) ⌝ }
     ensures { λ r. ⌜ ((ls : List Line) (rest : List ℕ) → lineList (now (list .entry)) ≡ got ls rest → Put (now (out .entry)) 0 (chipReply linefeeds (map (lineText spaces headers) ls)) r (now (out .exit))) ⌝ }
 {
     let mut cursor = LineCursor::new();

@@ -2,6 +2,7 @@
 use borrow.Author.Needs.{needs}
 use Rattle.reply.specs.Reply.{lineText}
 use Rattle.wire.proofs.PutLaws.{put-then}
+use Rattle.reply.proofs.TextLaws.{room-after}
 use Rattle.reply.proofs.put_line_text.Statement.{statement}
 use Rattle.reply.proofs.put_line_text.Tie as tie
 
@@ -9,7 +10,8 @@ put-header-requires : tie.Need-put-header-requires
 put-header-requires c κs = search needs
 
 put-data-requires : tie.Need-put-data-requires
-put-data-requires c κs = search needs
+unfolding lineText
+put-data-requires c κs = room-after _ (rw (c .before .before .before .before .before .if1 .taken) at (c .before .before .before .before .before .before .before .before .pre)) (c .before .before .before .put-header .ensures)
 
 same-length : tie.Need-same-length
 same-length c = search needs
@@ -19,7 +21,8 @@ unfolding lineText
 returns c = rw (c .before .before .before .before .before .before .before .before .if1 .taken) (put-then (c .before .before .before .before .before .before .put-header .ensures) (c .before .before .put-data .ensures))
 
 put-data-requires-2 : tie.Need-put-data-requires-2
-put-data-requires-2 c κs = search needs
+unfolding lineText
+put-data-requires-2 c κs = rw (c .before .if1 .left) at (c .before .before .before .before .pre)
 
 same-length-2 : tie.Need-same-length-2
 same-length-2 c = search needs
