@@ -1,8 +1,8 @@
 -- Laws of a line's text: the id of its ECU, and the digits of its data as a loop writes them.
-use mathlib.Core.Path.{_≡_, refl}
+use mathlib.Core.Path.{_≡_, refl, sym}
 use mathlib.Core.Bool.{Bool, true, false}
 use mathlib.Core.List.{List, [], _∷_, _++_, append-assoc}
-use Prim.Native.Nat.{ℕ, zero, suc, _+_, _-_, _/_, _%_, _≤_, _<_}
+use Prim.Native.Nat.{ℕ, zero, suc, _+_, _-_, _/_, _%_, _≤_, _<_, min}
 use native.Mathlib.Numerals.{add-one}
 use native.Mathlib.Omega.{arith}
 use lib.Dec.{eqb, eqb→eq}
@@ -41,14 +41,25 @@ pub data-room : {out o₁ : List ℕ} {at a : ℕ} (spaces : Bool) (s : List ℕ
     Put out at (hexByte (getD s 0 0)) a o₁ → a + length (furtherHex spaces (take (length s - 1) (drop 1 s))) ≤ length o₁
 data-room spaces s ne h p = room-after (furtherHex spaces (take (length s - 1) (drop 1 s))) (rw (data-first spaces s ne) at h) p
 
-module _ {out left : List ℕ} {at r : ℕ} (spaces : Bool) (s : List ℕ) (i : ℕ) (p : Put out at (furtherHex spaces (drop i s)) r left) where
-  data-next : {o₁ : List ℕ} {a₁ : ℕ} → i < length s → Put out at (spaceIf spaces ++ hexByte (getD s i 0)) a₁ o₁ → Put o₁ a₁ (furtherHex spaces (drop (i + 1) s)) r left
-  data-next h q =
+-- The loops: what is left of the bytes, written from here, gives what all of them give from the start. It is shut, so that `omega` does not look into it.
+pub Further : Bool → List ℕ → List ℕ → ℕ → ℕ → List ℕ → ℕ → Type 0
+Further spaces s out₀ at₀ i out at =
+    Put out at (furtherHex spaces (drop i s)) (at₀ + min (length (furtherHex spaces s)) (length out₀ - at₀)) (sets out₀ at₀ (furtherHex spaces s))
+
+module _ (spaces : Bool) (s out₀ : List ℕ) (at₀ : ℕ) where
+  pub further-start : Further spaces s out₀ at₀ 0 out₀ at₀
+  unfolding Further
+  further-start = record { next = refl; bytes = refl }
+
+  pub further-end : (out : List ℕ) (i at : ℕ) → length s ≤ i → Further spaces s out₀ at₀ i out at → Put out₀ at₀ (furtherHex spaces s) at out
+  unfolding Further
+  further-end out i at h p = let q = put-nil (rw (drop-of-length-le s h) at p) in record { next = sym (q .0); bytes = sym (q .1) }
+
+  further-next : (out o₁ : List ℕ) (i : ℕ) {at a₁ : ℕ} → i < length s → Put out at (spaceIf spaces ++ hexByte (getD s i 0)) a₁ o₁ → Further spaces s out₀ at₀ i out at → Further spaces s out₀ at₀ (i + 1) o₁ a₁
+  unfolding Further
+  further-next out o₁ i h q p =
       rw add-one
       (put-rest (rw (drop-cons s i 0 h, ← append-assoc (spaceIf spaces) (hexByte (getD s i 0)) (furtherHex spaces (drop (suc i) s))) at p) q)
-
-  pub data-end : length s ≤ i → (r ≡ at) × (left ≡ out)
-  data-end h = put-nil (rw (drop-of-length-le s h) at p)
 
 -- The stores of a turn, where there is room for them
 
@@ -60,18 +71,18 @@ digit-listed : (d : ℕ) → d < 16 → getD (ascii "0123456789ABCDEF") d 0 ≡ 
 unfolding hexDigit
 digit-listed d h = eqb→eq _ _ (at-below 16 (λ d. eqb (getD (ascii "0123456789ABCDEF") d 0) (hexDigit d)) tt d h)
 
-module _ {out left : List ℕ} {at r : ℕ} (s : List ℕ) (i : ℕ) (h : i < length s) where
-  pub joined-turn : {x y : ℕ} → x ≡ hexDigit (getD s i 0 / 16 % 16) → y ≡ hexDigit (getD s i 0 % 16) →
-      Put out at (furtherHex false (drop i s)) r left → at + 2 ≤ length out → Put (set (set out at x) (at + 1) y) (at + 2) (furtherHex false (drop (i + 1) s)) r left
-  joined-turn e f p k = data-next false s i p h (rw (e, f, add-one) (stored out at (hexByte (getD s i 0)) k))
+module _ (s out₀ : List ℕ) (at₀ i : ℕ) (out : List ℕ) (at : ℕ) (h : i < length s) where
+  pub joined-turn : {x y : ℕ} → x ≡ hexDigit (getD s i 0 / 16 % 16) → y ≡ hexDigit (getD s i 0 % 16) → at + 2 ≤ length out →
+      Further false s out₀ at₀ i out at → Further false s out₀ at₀ (i + 1) (set (set out at x) (at + 1) y) (at + 2)
+  joined-turn e f k = further-next false s out₀ at₀ out _ i h (rw (e, f, add-one) (stored out at (hexByte (getD s i 0)) k))
 
-  pub spaced-turn : getD s i 0 < 256 → Put out at (furtherHex true (drop i s)) r left → at + 3 ≤ length out →
-      Put (set (set (set out at 32) (at + 1) (getD (ascii "0123456789ABCDEF") (getD s i 0 / 16) 0)) (at + 2) (getD (ascii "0123456789ABCDEF") (getD s i 0 % 16) 0))
-      (at + 3) (furtherHex true (drop (i + 1) s)) r left
-  spaced-turn l p k =
+  pub spaced-turn : getD s i 0 < 256 → at + 3 ≤ length out → Further true s out₀ at₀ i out at →
+      Further true s out₀ at₀ (i + 1)
+      (set (set (set out at 32) (at + 1) (getD (ascii "0123456789ABCDEF") (getD s i 0 / 16) 0)) (at + 2) (getD (ascii "0123456789ABCDEF") (getD s i 0 % 16) 0)) (at + 3)
+  spaced-turn l k =
       let two : at + 2 ≡ suc (suc at) = omega arith in
       let high : getD s i 0 / 16 % 16 ≡ getD s i 0 / 16 = omega arith in
-      data-next true s i p h
+      further-next true s out₀ at₀ out _ i h
       (rw (digit-listed (getD s i 0 / 16) (omega arith), digit-listed (getD s i 0 % 16) (omega arith), two, add-one, high) (stored out at (32 ∷ hexDigit (getD s i 0 / 16) ∷ hexDigit (getD s i 0 % 16) ∷ []) k))
 
 -- only an empty list has no lines

@@ -123,10 +123,11 @@ fn put_data(out: &mut [u8], at: usize, payload: &[u8], spaces: bool) -> usize
         return at;
     }
     let next = hex::put_hex_byte(out, at, payload[0]);
+    let further = &payload[1..];
     if spaces {
-        return put_spaced(out, next, &payload[1..]);
+        return put_spaced(out, next, further);
     }
-    put_joined(out, next, &payload[1..])
+    put_joined(out, next, further)
 }
 
 // A line, without its ending, where there is room.

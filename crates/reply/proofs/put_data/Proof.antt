@@ -14,41 +14,32 @@ shared-slice-read-put-hex-byte c = search needs
 put-hex-byte-requires : tie.Need-put-hex-byte-requires
 put-hex-byte-requires c κs = search needs
 
-sub-put-spaced : tie.Need-sub-put-spaced
-sub-put-spaced c = search needs
+sub-further : tie.Need-sub-further
+sub-further c = search needs
 
-part-put-spaced-start : tie.Need-part-put-spaced-start
-part-put-spaced-start c = search needs
+part-further-start : tie.Need-part-further-start
+part-further-start c = search needs
 
-part-put-spaced-end : tie.Need-part-put-spaced-end
-part-put-spaced-end c = search needs
+part-further-end : tie.Need-part-further-end
+part-further-end c = search needs
 
 put-spaced-requires : tie.Need-put-spaced-requires
-put-spaced-requires c κs = rw (c .before .before .if2 .taken) at (data-room (c .before .before .before .before .before .before .before .before .before .before .before .args .spaces) (c .before .before .before .before .before .before .before .before .before .before .before .args .payload .now) (c .before .before .before .before .before .before .before .before .if1 .left) (c .before .before .before .before .before .before .before .before .before .before .before .pre) (c .before .before .before .before .before .put-hex-byte .ensures))
+put-spaced-requires c κs = rw (c .before .if2 .taken) at (data-room (c .before .before .before .before .before .before .before .before .before .before .before .args .spaces) (c .before .before .before .before .before .before .before .before .before .before .before .args .payload .now) (c .before .before .before .before .before .before .before .before .if1 .left) (c .before .before .before .before .before .before .before .before .before .before .before .pre) (c .before .before .before .before .before .put-hex-byte .ensures))
 
 same-length : tie.Need-same-length
 same-length c = search needs
 
 returns-2 : tie.Need-returns-2
-returns-2 c = rw (data-first _ _ (c .before .before .before .before .before .before .before .before .before .before .before .if1 .left), c .before .before .before .before .before .if2 .taken) (put-then (c .before .before .before .before .before .before .before .before .put-hex-byte .ensures) (c .before .before .put-spaced .ensures))
-
-sub-put-joined : tie.Need-sub-put-joined
-sub-put-joined c = search needs
-
-part-put-joined-start : tie.Need-part-put-joined-start
-part-put-joined-start c = search needs
-
-part-put-joined-end : tie.Need-part-put-joined-end
-part-put-joined-end c = search needs
+returns-2 c = rw (data-first _ _ (c .before .before .before .before .before .before .before .before .before .before .before .if1 .left), c .before .before .before .before .if2 .taken) (put-then (c .before .before .before .before .before .before .before .before .put-hex-byte .ensures) (c .before .before .put-spaced .ensures))
 
 put-joined-requires : tie.Need-put-joined-requires
-put-joined-requires c κs = rw (c .before .before .if2 .left) at (data-room (c .before .before .before .before .before .before .before .before .before .before .before .args .spaces) (c .before .before .before .before .before .before .before .before .before .before .before .args .payload .now) (c .before .before .before .before .before .before .before .before .if1 .left) (c .before .before .before .before .before .before .before .before .before .before .before .pre) (c .before .before .before .before .before .put-hex-byte .ensures))
+put-joined-requires c κs = rw (c .before .if2 .left) at (data-room (c .before .before .before .before .before .before .before .before .before .before .before .args .spaces) (c .before .before .before .before .before .before .before .before .before .before .before .args .payload .now) (c .before .before .before .before .before .before .before .before .if1 .left) (c .before .before .before .before .before .before .before .before .before .before .before .pre) (c .before .before .before .before .before .put-hex-byte .ensures))
 
 same-length-2 : tie.Need-same-length-2
 same-length-2 c = search needs
 
 returns-3 : tie.Need-returns-3
-returns-3 c = rw (data-first _ _ (c .before .before .before .before .before .before .before .before .before .before .before .if1 .left), c .before .before .before .before .before .if2 .left) (put-then (c .before .before .before .before .before .before .before .before .put-hex-byte .ensures) (c .before .before .put-joined .ensures))
+returns-3 c = rw (data-first _ _ (c .before .before .before .before .before .before .before .before .before .before .before .if1 .left), c .before .before .before .before .if2 .left) (put-then (c .before .before .before .before .before .before .before .before .put-hex-byte .ensures) (c .before .before .put-joined .ensures))
 
 pub put-data-spec : {M : Type 1} → statement M
 put-data-spec =
@@ -57,15 +48,12 @@ put-data-spec =
     returns
     shared-slice-read-put-hex-byte
     put-hex-byte-requires
-    sub-put-spaced
-    part-put-spaced-start
-    part-put-spaced-end
+    sub-further
+    part-further-start
+    part-further-end
     put-spaced-requires
     same-length
     returns-2
-    sub-put-joined
-    part-put-joined-start
-    part-put-joined-end
     put-joined-requires
     same-length-2
     returns-3)
