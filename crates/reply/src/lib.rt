@@ -2,7 +2,7 @@
 use line_list::LineCursor;
 use line_list::LineStep;
 ghost use mathlib.Core.Path.{_≡_};
-ghost use mathlib.Core.Bool.{true, false, cond};
+ghost use mathlib.Core.Bool.{true, false};
 ghost use mathlib.Core.List.{List, [], _∷_, map};
 ghost use Prim.Native.Nat.{ℕ, _+_, _≤_};
 ghost use lib.ListN.{length};
@@ -13,7 +13,7 @@ ghost use Rattle.line_list.specs.Lines.{Line, line, lineList};
 ghost use Rattle.reply.specs.Shape.{chipReply};
 ghost use Rattle.reply.specs.Reply.{ecuId, spaceIf, furtherHex, dataHex, header, lineText};
 ghost use Rattle.reply.specs.Answers.{lent, replied, sizeAnswer, replySize};
-ghost use Rattle.reply.specs.Steps.{Room};
+ghost use Rattle.reply.specs.Steps.{headerSize, dataSize, Room};
 
 pub enum ReplyAnswer {
     // So many bytes stand at the front of out.
@@ -160,7 +160,7 @@ fn ending_size(linefeeds: bool) -> usize
 
 // A header has five digits and, if spaces are on, two spaces.
 fn header_size(spaces: bool, headers: bool) -> usize
-    ensures { λ r. ⌜ ((l : Line) → r ≡ length (cond headers (header spaces l) [])) ⌝ }
+    ensures { λ r. ⌜ r ≡ headerSize spaces headers ⌝ }
 {
     if headers {
         if spaces {
@@ -172,11 +172,10 @@ fn header_size(spaces: bool, headers: bool) -> usize
 }
 
 // A byte has two digits and, if spaces are on, all but the last have a space.
-fn data_size(payload: &[u8], spaces: bool) -> usize
-    requires { ⌜ length (now payload) ≤ 255 ⌝ }
-    ensures { λ r. ⌜ r ≡ length (dataHex spaces (now (payload .entry))) ⌝ }
+fn data_size(n: usize, spaces: bool) -> usize
+    requires { ⌜ n ≤ 255 ⌝ }
+    ensures { λ r. ⌜ r ≡ dataSize spaces n ⌝ }
 {
-    let n = payload.len();
     if n == 0 {
         return 0;
     }
@@ -186,12 +185,12 @@ fn data_size(payload: &[u8], spaces: bool) -> usize
     2 * n
 }
 
-// How long a line is with its ending, whatever its ECU.
-fn line_size(payload: &[u8], linefeeds: bool, spaces: bool, headers: bool) -> usize
-    requires { ⌜ length (now payload) ≤ 255 ⌝ }
-    ensures { λ r. ⌜ ((e : ℕ) → r ≡ length (lineText spaces headers (line e (now (payload .entry)))) + length (lineEnding linefeeds)) ⌝ }
+// How long a line of n bytes is with its ending.
+fn line_size(n: usize, linefeeds: bool, spaces: bool, headers: bool) -> usize
+    requires { ⌜ n ≤ 255 ⌝ }
+    ensures { λ r. ⌜ r ≡ headerSize spaces headers + dataSize spaces n + length (lineEnding linefeeds) ⌝ }
 {
-    header_size(spaces, headers) + data_size(payload, spaces) + ending_size(linefeeds)
+    header_size(spaces, headers) + data_size(n, spaces) + ending_size(linefeeds)
 }
 
 // How long the reply to a line list is: one walk checks the list and adds up its lines.
@@ -218,7 +217,7 @@ fn reply_size(list: &[u8], linefeeds: bool, spaces: bool, headers: bool) -> Repl
                     return ReplySize::Malformed;
                 }
                 let end = next.at;
-                size = size + line_size(&list[start..end], linefeeds, spaces, headers);
+                size = size + line_size(end - start, linefeeds, spaces, headers);
                 cursor = next;
                 lines += 1;
             }

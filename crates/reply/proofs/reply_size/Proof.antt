@@ -4,7 +4,7 @@ use Prim.Native.Nat.{_+_, _-_, _*_, _≤_}
 use native.Mathlib.Omega.{arith}
 use lib.ListN.{drop}
 use borrow.Author.Needs.{needs}
-use Rattle.reply.proofs.SizeLaws.{ending-short, sized, here-short, size-none, size-start, size-line, size-short, size-end, size-bad, size-full}
+use Rattle.reply.proofs.SizeLaws.{ending-short, sized, size-none, size-start, size-line, size-short, size-end, size-bad, size-full}
 use Rattle.reply.specs.Answers.{replySize}
 use Rattle.line_list.proofs.StepLaws.{step-line, step-end, step-none}
 use Rattle.line_list.specs.Lines.{readAllLines}
@@ -51,26 +51,23 @@ returns-2 c = let w = step-line _ _ (c .before .before .before .before .step .en
 sub-line-size : tie.Need-sub-line-size Inv-loop μ-loop
 sub-line-size c = let w = step-line _ _ (c .before .before .before .before .step .ensures) (c .before .before .start .given .1) in omega arith
 
-part-line-size-start : tie.Need-part-line-size-start Inv-loop μ-loop
-part-line-size-start c = let w = step-line _ _ (c .before .before .before .before .step .ensures) (c .before .before .start .given .1) in omega arith
-
-part-line-size-end : tie.Need-part-line-size-end Inv-loop μ-loop
-part-line-size-end c = let w = step-line _ _ (c .before .before .before .before .step .ensures) (c .before .before .start .given .1) in omega arith
-
 line-size-requires : tie.Need-line-size-requires Inv-loop μ-loop
-line-size-requires c κs = here-short _ _ _ _ _ (step-line _ _ (c .before .before .before .before .before .step .ensures) (c .before .before .before .start .given .1))
+line-size-requires c κs = let w = step-line _ _ (c .before .before .before .before .step .ensures) (c .before .before .start .given .1) in w .short
 
 add-size-2 : tie.Need-add-size-2 Inv-loop μ-loop
-add-size-2 c = omega (arith, size-short (c .before .before .before .before .before .before .before .before .before .before .before .before .args .linefeeds) (c .before .before .before .before .before .before .before .before .before .before .before .before .args .spaces) (c .before .before .before .before .before .before .before .before .before .before .before .before .args .headers) _ _ _ _ _ _ (step-line _ _ (c .before .before .before .before .before .before .step .ensures) (c .before .before .before .before .start .given .1)) (c .line-size .ensures _))
+add-size-2 c = omega (arith, size-short (c .before .before .before .before .before .before .before .before .before .before .before .args .linefeeds) (c .before .before .before .before .before .before .before .before .before .before .before .args .spaces) (c .before .before .before .before .before .before .before .before .before .before .before .args .headers) _ _ _ _ _ _ (step-line _ _ (c .before .before .before .before .before .step .ensures) (c .before .before .before .start .given .1)) (c .line-size .ensures))
 
 add-lines : tie.Need-add-lines Inv-loop μ-loop
 add-lines c = search needs
 
 loop-less : tie.Need-loop-less Inv-loop μ-loop
-loop-less c = omega (arith, c .before .before .if2 .left)
+loop-less c = omega (arith, c .before .if2 .left)
 
 loop-again : tie.Need-loop-again Inv-loop μ-loop
-loop-again c = (omega (arith, c .before .before .if2 .left), omega (arith, size-short (c .before .before .before .before .before .before .before .before .before .before .before .before .args .linefeeds) (c .before .before .before .before .before .before .before .before .before .before .before .before .args .spaces) (c .before .before .before .before .before .before .before .before .before .before .before .before .args .headers) _ _ _ _ _ _ (step-line _ _ (c .before .before .before .before .before .before .step .ensures) (c .before .before .before .before .start .given .1)) (c .line-size .ensures _)), sym (size-line _ _ _ _ _ _ _ _ _ _ _ (step-line _ _ (c .before .before .before .before .before .before .step .ensures) (c .before .before .before .before .start .given .1)) (c .line-size .ensures _) (c .before .before .before .before .before .before .before .loop .inv .0) (c .before .before .if2 .left)) ∙ c .before .before .before .before .before .before .before .loop .inv .2)
+loop-again c =
+    let inv = c .before .before .before .before .before .before .loop .inv in
+    let w = step-line _ _ (c .before .before .before .before .before .step .ensures) (c .before .before .before .start .given .1) in
+    (omega (arith, c .before .if2 .left), omega (arith, size-short (c .before .before .before .before .before .before .before .before .before .before .before .args .linefeeds) (c .before .before .before .before .before .before .before .before .before .before .before .args .spaces) (c .before .before .before .before .before .before .before .before .before .before .before .args .headers) _ _ _ _ _ _ w (c .line-size .ensures)), sym (size-line _ _ _ _ _ _ _ _ _ _ _ w (c .line-size .ensures) (inv .0) (c .before .if2 .left)) ∙ inv .2)
 
 enum-told : tie.Need-enum-told Inv-loop μ-loop
 enum-told c = search needs
@@ -101,8 +98,6 @@ reply-size-spec =
     enum-known-start
     returns-2
     sub-line-size
-    part-line-size-start
-    part-line-size-end
     line-size-requires
     add-size-2
     add-lines
