@@ -1,22 +1,22 @@
 -- Laws of a line's text: the id of its ECU, and the digits of its data as a loop writes them.
 use mathlib.Core.Path.{_≡_, refl, sym}
-use mathlib.Core.Bool.{Bool, true, false}
+use mathlib.Core.Bool.{Bool, true, false, cond}
 use mathlib.Core.List.{List, [], _∷_, _++_, append-assoc}
 use Prim.Native.Nat.{ℕ, zero, suc, _+_, _-_, _/_, _%_, _≤_, _<_, min}
 use native.Mathlib.Numerals.{add-one}
 use native.Mathlib.Omega.{arith}
 use lib.Dec.{eqb, eqb→eq}
-use lib.ListN.{length, take, drop, getD, set, length-append, length-drop, drop-of-length-le}
-use lib.Seq.{sets, take-all, drop-cons}
+use lib.ListN.{length, drop, getD, set, length-append, drop-of-length-le}
+use lib.Seq.{sets, drop-cons}
 use Rattle.wire.specs.Put.{Put}
-use Rattle.wire.proofs.PutLaws.{put-length, put-rest, put-nil}
+use Rattle.wire.proofs.PutLaws.{put-length, put-none, put-then, put-rest, put-nil}
 use Rattle.hex.specs.Digits.{hexDigit, hexByte}
 use Rattle.wire.specs.Text.{ascii}
 use Rattle.wire.proofs.Cases.{from-no, at-below}
 use Rattle.group.specs.Group.{got}
 use Rattle.group.proofs.GroupLaws.{then-got}
-use Rattle.line_list.specs.Lines.{readLine, readAllLines}
-use Rattle.reply.specs.Reply.{ecuId, spaceIf, furtherHex, dataHex}
+use Rattle.line_list.specs.Lines.{Line, readLine, readAllLines}
+use Rattle.reply.specs.Reply.{ecuId, spaceIf, furtherHex, dataHex, header, lineText}
 
 -- an ECU that is known
 pub id-known : (e : ℕ) → (e ≡ 0 → ⊥) → ecuId e ≡ e - 1
@@ -29,29 +29,39 @@ room-after {out} {o₁} {t} {at} {a} u h p = omega (arith, length-append t u, pu
 
 -- Data: none, its first byte, and those from position i on
 
-pub data-none : (spaces : Bool) (s : List ℕ) → length s ≡ 0 → dataHex spaces s ≡ []
+data-none : (spaces : Bool) (s : List ℕ) → length s ≡ 0 → dataHex spaces s ≡ []
 data-none spaces s h = rw (drop-of-length-le s {i = 0} (omega arith))
 
-pub data-first : (spaces : Bool) (s : List ℕ) → (length s ≡ 0 → ⊥) → dataHex spaces s ≡ hexByte (getD s 0 0) ++ furtherHex spaces (take (length s - 1) (drop 1 s))
-data-first spaces s h =
-    let rest : take (length s - 1) (drop 1 s) ≡ drop 1 s = take-all (length s - 1) (drop 1 s) (omega (arith, length-drop 1 s)) in
-    rw (rest, drop-cons s 0 0 (omega arith))
+data-first : (spaces : Bool) (s : List ℕ) → (length s ≡ 0 → ⊥) → dataHex spaces s ≡ hexByte (getD s 0 0) ++ furtherHex spaces (drop 1 s)
+data-first spaces s h = rw (drop-cons s 0 0 (omega arith))
 
-pub data-room : {out o₁ : List ℕ} {at a : ℕ} (spaces : Bool) (s : List ℕ) → (length s ≡ 0 → ⊥) → at + length (dataHex spaces s) ≤ length out →
-    Put out at (hexByte (getD s 0 0)) a o₁ → a + length (furtherHex spaces (take (length s - 1) (drop 1 s))) ≤ length o₁
-data-room spaces s ne h p = room-after (furtherHex spaces (take (length s - 1) (drop 1 s))) (rw (data-first spaces s ne) at h) p
+-- A line as its writers follow one another: its header if on, its first byte, and those after it
 
--- The loops: what is left of the bytes, written from here, gives what all of them give from the start. It is shut, so that `omega` does not look into it.
+module _ (spaces headers : Bool) (l : Line) {out o₁ : List ℕ} {at a₁ : ℕ} (p : Put out at (cond headers (header spaces l) []) a₁ o₁) where
+  pub line-none : length (l .bytes) ≡ 0 → Put out at (lineText spaces headers l) a₁ o₁
+  unfolding lineText
+  line-none h = rw (data-none spaces (l .bytes) h) (put-then p (put-none o₁ a₁))
+
+  module _ (some : length (l .bytes) ≡ 0 → ⊥) {o₂ : List ℕ} {a₂ : ℕ} (q : Put o₁ a₁ (hexByte (getD (l .bytes) 0 0)) a₂ o₂) where
+    pub line-room : at + length (lineText spaces headers l) ≤ length out → a₂ + length (furtherHex spaces (drop 1 (l .bytes))) ≤ length o₂
+    unfolding lineText
+    line-room h = room-after (furtherHex spaces (drop 1 (l .bytes))) (rw (data-first spaces (l .bytes) some) at (room-after (dataHex spaces (l .bytes)) h p)) q
+
+    pub line-puts : {left : List ℕ} {r : ℕ} → Put o₂ a₂ (furtherHex spaces (drop 1 (l .bytes))) r left → Put out at (lineText spaces headers l) r left
+    unfolding lineText
+    line-puts k = rw (data-first spaces (l .bytes) some) (put-then p (put-then q k))
+
+-- The loops: what is left of the bytes, written from here, gives what all after the first give from the start. It is shut, so that `omega` does not look into it.
 pub Further : Bool → List ℕ → List ℕ → ℕ → ℕ → List ℕ → ℕ → Type 0
 Further spaces s out₀ at₀ i out at =
-    Put out at (furtherHex spaces (drop i s)) (at₀ + min (length (furtherHex spaces s)) (length out₀ - at₀)) (sets out₀ at₀ (furtherHex spaces s))
+    Put out at (furtherHex spaces (drop i s)) (at₀ + min (length (furtherHex spaces (drop 1 s))) (length out₀ - at₀)) (sets out₀ at₀ (furtherHex spaces (drop 1 s)))
 
 module _ (spaces : Bool) (s out₀ : List ℕ) (at₀ : ℕ) where
-  pub further-start : Further spaces s out₀ at₀ 0 out₀ at₀
+  pub further-start : Further spaces s out₀ at₀ 1 out₀ at₀
   unfolding Further
   further-start = record { next = refl; bytes = refl }
 
-  pub further-end : (out : List ℕ) (i at : ℕ) → length s ≤ i → Further spaces s out₀ at₀ i out at → Put out₀ at₀ (furtherHex spaces s) at out
+  pub further-end : (out : List ℕ) (i at : ℕ) → length s ≤ i → Further spaces s out₀ at₀ i out at → Put out₀ at₀ (furtherHex spaces (drop 1 s)) at out
   unfolding Further
   further-end out i at h p = let q = put-nil (rw (drop-of-length-le s h) at p) in record { next = sym (q .0); bytes = sym (q .1) }
 

@@ -2,16 +2,17 @@
 use line_list::LineCursor;
 use line_list::LineStep;
 ghost use mathlib.Core.Path.{_≡_};
-ghost use mathlib.Core.Bool.{true, false};
-ghost use mathlib.Core.List.{List, [], _∷_, map};
+ghost use mathlib.Core.Bool.{true, false, cond};
+ghost use mathlib.Core.List.{List, [], _∷_, _++_, map};
 ghost use Prim.Native.Nat.{ℕ, _+_, _≤_};
-ghost use lib.ListN.{length};
+ghost use lib.ListN.{length, drop};
 ghost use Rattle.wire.specs.Put.{Put};
+ghost use Rattle.hex.specs.Digits.{hexByte, hexId};
 ghost use Rattle.group.specs.Group.{got};
 ghost use Rattle.client_state.specs.Settings.{lineEnding};
 ghost use Rattle.line_list.specs.Lines.{Line, line, lineList};
 ghost use Rattle.reply.specs.Shape.{chipReply};
-ghost use Rattle.reply.specs.Reply.{ecuId, spaceIf, furtherHex, dataHex, header, lineText};
+ghost use Rattle.reply.specs.Reply.{ecuId, spaceIf, furtherHex, lineText};
 ghost use Rattle.reply.specs.Answers.{lent, replied, sizeAnswer, replySize};
 ghost use Rattle.reply.specs.Steps.{headerSize, dataSize, Room};
 
@@ -68,26 +69,36 @@ fn ecu_id(ecu: u16) -> u16
     ecu - 1
 }
 
-// The header of a line: its ECU, and how many bytes it has (255 at most) in two digits.
-fn put_header(out: &mut [u8], at: usize, ecu: u16, payload: &[u8], spaces: bool) -> usize
-    ensures { λ r. ⌜ Put (now (out .entry)) at (header spaces (line ecu (now (payload .entry)))) r (now (out .exit)) ⌝ }
+// The header of a line, if on: its ECU, and how many bytes it has (255 at most) in two digits.
+fn put_header(
+    out: &mut [u8],
+    at: usize,
+    ecu: u16,
+    size: usize,
+    spaces: bool,
+    headers: bool,
+) -> usize
+    ensures { λ r. ⌜ Put (now (out .entry)) at (cond headers (hexId (ecuId ecu) ++ (spaceIf spaces ++ (hexByte size ++ spaceIf spaces))) []) r (now (out .exit)) ⌝ }
 {
-    let at = hex::put_hex_id(out, at, ecu_id(ecu));
-    let at = put_space(out, at, spaces);
-    let at = hex::put_hex_byte(out, at, (payload.len() % 256) as u8);
-    put_space(out, at, spaces)
+    if headers {
+        let at = hex::put_hex_id(out, at, ecu_id(ecu));
+        let at = put_space(out, at, spaces);
+        let at = hex::put_hex_byte(out, at, (size % 256) as u8);
+        return put_space(out, at, spaces);
+    }
+    at
 }
 
-// Further bytes with a space before each, where there is room. The digits are read from a table, since the machine cannot join these stores.
-fn put_spaced(out: &mut [u8], at: usize, further: &[u8]) -> usize
-    requires { ⌜ at + length (furtherHex true (now further)) ≤ length (now out) ⌝ }
-    ensures { λ r. ⌜ Put (now (out .entry)) at (furtherHex true (now (further .entry))) r (now (out .exit)) ⌝ }
+// The bytes after the first with a space before each, where there is room. The digits are read from a table, since the machine cannot join these stores.
+fn put_spaced(out: &mut [u8], at: usize, payload: &[u8]) -> usize
+    requires { ⌜ at + length (furtherHex true (drop 1 (now payload))) ≤ length (now out) ⌝ }
+    ensures { λ r. ⌜ Put (now (out .entry)) at (furtherHex true (drop 1 (now (payload .entry)))) r (now (out .exit)) ⌝ }
 {
     let digits = b"0123456789ABCDEF";
     let mut to = at;
-    let mut i: usize = 0;
-    while i < further.len() {
-        let byte = further[i];
+    let mut i: usize = 1;
+    while i < payload.len() {
+        let byte = payload[i];
         out[to] = b' ';
         out[to + 1] = digits[(byte / 16) as usize];
         out[to + 2] = digits[(byte % 16) as usize];
@@ -97,37 +108,21 @@ fn put_spaced(out: &mut [u8], at: usize, further: &[u8]) -> usize
     to
 }
 
-// Further bytes with nothing before them, where there is room. The digits are computed, so that the machine can make many in one step.
-fn put_joined(out: &mut [u8], at: usize, further: &[u8]) -> usize
-    requires { ⌜ at + length (furtherHex false (now further)) ≤ length (now out) ⌝ }
-    ensures { λ r. ⌜ Put (now (out .entry)) at (furtherHex false (now (further .entry))) r (now (out .exit)) ⌝ }
+// The bytes after the first with nothing before them, where there is room. The digits are computed, so that the machine can make many in one step.
+fn put_joined(out: &mut [u8], at: usize, payload: &[u8]) -> usize
+    requires { ⌜ at + length (furtherHex false (drop 1 (now payload))) ≤ length (now out) ⌝ }
+    ensures { λ r. ⌜ Put (now (out .entry)) at (furtherHex false (drop 1 (now (payload .entry)))) r (now (out .exit)) ⌝ }
 {
     let mut to = at;
-    let mut i: usize = 0;
-    while i < further.len() {
-        let byte = further[i];
+    let mut i: usize = 1;
+    while i < payload.len() {
+        let byte = payload[i];
         out[to] = hex::hex_char(byte / 16);
         out[to + 1] = hex::hex_char(byte);
         to += 2;
         i += 1;
     }
     to
-}
-
-// Data in capital hex, where there is room.
-fn put_data(out: &mut [u8], at: usize, payload: &[u8], spaces: bool) -> usize
-    requires { ⌜ at + length (dataHex spaces (now payload)) ≤ length (now out) ⌝ }
-    ensures { λ r. ⌜ Put (now (out .entry)) at (dataHex spaces (now (payload .entry))) r (now (out .exit)) ⌝ }
-{
-    if payload.len() == 0 {
-        return at;
-    }
-    let next = hex::put_hex_byte(out, at, payload[0]);
-    let further = &payload[1..];
-    if spaces {
-        return put_spaced(out, next, further);
-    }
-    put_joined(out, next, further)
 }
 
 // A line, without its ending, where there is room.
@@ -142,11 +137,15 @@ fn put_line_text(
     requires { ⌜ at + length (lineText spaces headers (line ecu (now payload))) ≤ length (now out) ⌝ }
     ensures { λ r. ⌜ Put (now (out .entry)) at (lineText spaces headers (line ecu (now (payload .entry)))) r (now (out .exit)) ⌝ }
 {
-    if headers {
-        let start = put_header(out, at, ecu, payload, spaces);
-        return put_data(out, start, payload, spaces);
+    let start = put_header(out, at, ecu, payload.len(), spaces, headers);
+    if payload.len() == 0 {
+        return start;
     }
-    put_data(out, at, payload, spaces)
+    let next = hex::put_hex_byte(out, start, payload[0]);
+    if spaces {
+        return put_spaced(out, next, payload);
+    }
+    put_joined(out, next, payload)
 }
 
 fn ending_size(linefeeds: bool) -> usize
@@ -204,7 +203,7 @@ fn reply_size(list: &[u8], linefeeds: bool, spaces: bool, headers: bool) -> Repl
         // `NO DATA`.
         return ReplySize::Size(7 + ending + size);
     }
-    let mut cursor = LineCursor::new();
+    let mut cursor = LineCursor { at: 0 };
     let mut lines: usize = 0;
     loop {
         match cursor.step(list) {
@@ -232,7 +231,7 @@ fn write_lines(list: &[u8], linefeeds: bool, spaces: bool, headers: bool, out: &
     requires { ⌜ Room linefeeds spaces headers (now list) (now out) ⌝ }
     ensures { λ r. ⌜ ((ls : List Line) (rest : List ℕ) → lineList (now (list .entry)) ≡ got ls rest → Put (now (out .entry)) 0 (chipReply linefeeds (map (lineText spaces headers) ls)) r (now (out .exit))) ⌝ }
 {
-    let mut cursor = LineCursor::new();
+    let mut cursor = LineCursor { at: 0 };
     let mut at: usize = 0;
     loop {
         match cursor.step(list) {

@@ -3,7 +3,7 @@ use mathlib.Core.Path.{_≡_, refl}
 use mathlib.Core.Bool.{true}
 use Prim.Native.Nat.{_+_, _-_, _*_, _≤_}
 use native.Mathlib.Omega.{arith}
-use lib.ListN.{length, length-set}
+use lib.ListN.{length, drop, length-set, length-drop}
 use borrow.Author.Needs.{needs}
 use Rattle.reply.proofs.SizeLaws.{further-length}
 use Rattle.reply.proofs.TextLaws.{Further, further-start, further-end, spaced-turn}
@@ -11,14 +11,14 @@ use Rattle.reply.proofs.put_spaced.Statement.{statement}
 use Rattle.reply.proofs.put_spaced.Tie as tie
 
 abbrev Inv-loop : tie.InvT-loop
-Inv-loop out₀ at further digits to₀ i₀ out to i =
-    (i ≤ length further) × (length out ≡ length out₀) × (to + 3 * (length further - i) ≤ length out₀) × Further true further out₀ at i out to
+Inv-loop out₀ at payload digits to₀ i₀ out to i =
+    (1 ≤ i) × (length out ≡ length out₀) × (to + 3 * (length payload - i) ≤ length out₀) × Further true payload out₀ at i out to
 
 abbrev μ-loop : tie.MeasureT-loop
-μ-loop out₀ at further digits to₀ i₀ out to i = length further - i
+μ-loop out₀ at payload digits to₀ i₀ out to i = length payload - i
 
 loop-holds : tie.Need-loop-holds Inv-loop μ-loop
-loop-holds c = (omega arith, refl, omega (arith, further-length true (c .before .args .further .now), c .before .pre), further-start _ _ _ _)
+loop-holds c = (omega arith, refl, omega (arith, further-length true (drop 1 (c .before .args .payload .now)), length-drop 1 (c .before .args .payload .now), c .before .pre), further-start _ _ _ _)
 
 shared-slice-read-byte : tie.Need-shared-slice-read-byte Inv-loop μ-loop
 shared-slice-read-byte c = omega arith

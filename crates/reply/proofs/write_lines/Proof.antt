@@ -22,11 +22,8 @@ Inv-loop list linefeeds spaces headers out₀ cursor₀ at₀ out cursor at =
 abbrev μ-loop : tie.MeasureT-loop
 μ-loop list linefeeds spaces headers out₀ cursor₀ at₀ out cursor at = length list - cursor .at
 
-new-requires : tie.Need-new-requires Inv-loop μ-loop
-new-requires c κs = search needs
-
 loop-holds : tie.Need-loop-holds Inv-loop μ-loop
-loop-holds c = (refl, left-start _ _ _ _ _ _ (c .before .before .before .pre) (c .new .ensures))
+loop-holds c = (refl, left-start _ _ _ _ _ _ (c .before .before .pre) refl)
 
 step-requires : tie.Need-step-requires Inv-loop μ-loop
 step-requires c κs = search needs
@@ -45,7 +42,7 @@ part-put-line-text-end c = let w = step-line _ _ (c .before .before .before .bef
 
 put-line-text-requires : tie.Need-put-line-text-requires Inv-loop μ-loop
 put-line-text-requires c κs =
-    let k = c .before .before .before .before .before .before .before .before .before .before .pre in
+    let k = c .before .before .before .before .before .before .before .before .before .pre in
     left-room _ _ _ _ _ (c .before .before .before .before .before .before .loop .inv .1 (k .lines) (k .rest) (k .reads)) _ _ _ (step-line _ _ (c .before .before .before .before .before .step .ensures) (c .before .before .before .ecu .given .1))
 
 put-line-ending-requires : tie.Need-put-line-ending-requires Inv-loop μ-loop
@@ -84,7 +81,6 @@ write-lines-spec =
     (tie.spec
     Inv-loop
     μ-loop
-    new-requires
     loop-holds
     step-requires
     enum-known-ecu
