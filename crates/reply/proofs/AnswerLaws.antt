@@ -19,6 +19,7 @@ use Rattle.line_list.proofs.StepLaws.{left-end}
 use Rattle.reply.specs.Shape.{chipReply}
 use Rattle.reply.specs.Reply.{lineText, replyText}
 use Rattle.reply.specs.Answers.{Lent, lent, fitted, repliedWith, replied, sizeAnswer, sizeWith, replySize}
+use Rattle.reply.specs.Steps.{Room}
 use Rattle.reply.specs.declared.ReplyAnswer.the-variants.{Written, Malformed, SmallBuffer}
 use Rattle.reply.specs.declared.ReplySize.{ReplySize}
 use Rattle.reply.specs.declared.ReplySize.the-variants as size
@@ -129,6 +130,11 @@ module _ (linefeeds spaces headers : Bool) where
         answer-none d h e p =
             let (ls, rest, g, n) = size-told q d in
             replied-written ls rest g (omega arith) (rw (list-none ls rest g e) p)
+
+        pub answer-room : {n : ℕ} → r ≡ size.Size n → n ≤ length out → 0 < length s → Room linefeeds spaces headers s out
+        answer-room d h e =
+            let (ls, rest, g, n) = size-told q d in
+            record { lines = ls; rest = rest; reads = g; fits = omega (arith, ap length (list-some ls rest g e)) }
 
         pub answer-some : {n : ℕ} → r ≡ size.Size n → n ≤ length out → 0 < length s →
             {left : List ℕ} {a : ℕ} → ((ls : List Line) (rest : List ℕ) → lineList s ≡ got ls rest → Put out 0 (chipReply linefeeds (map (lineText spaces headers) ls)) a left) →

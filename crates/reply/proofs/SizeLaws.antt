@@ -5,7 +5,8 @@ use mathlib.Core.List.{List, [], _∷_, _++_, map}
 use Prim.Native.Nat.{ℕ, zero, suc, _+_, _-_, _*_, _≤_, _<_}
 use native.Mathlib.Nat.{mul-suc}
 use native.Mathlib.Omega.{arith}
-use lib.ListN.{length, take, drop, length-append, length-take, length-drop}
+use lib.ListN.{length, take, drop, length-append, length-drop}
+use lib.Seq.{length-take-le}
 use Rattle.wire.specs.Answer.{Answer, result, refused}
 use Rattle.client_state.specs.Settings.{lineEnding}
 use Rattle.hex.specs.Digits.{hexByte}
@@ -15,20 +16,21 @@ use Rattle.line_list.proofs.StepLaws.{LineHere, left-end, left-line, left-none,
 use Rattle.reply.specs.Shape.{chipReply}
 use Rattle.reply.specs.Reply.{spaceIf, furtherHex, dataHex, header, lineText, replyText}
 use Rattle.reply.specs.Answers.{sizeWith, replySize}
+use Rattle.reply.specs.Steps.{headerSize, dataSize}
 use Rattle.reply.proofs.TextLaws.{no-lines}
 
-further-length : (spaces : Bool) (s : List ℕ) → length (furtherHex spaces s) ≡ (2 + length (spaceIf spaces)) * length s
+pub further-length : (spaces : Bool) (s : List ℕ) → length (furtherHex spaces s) ≡ (2 + length (spaceIf spaces)) * length s
 further-length spaces [] = omega arith
 further-length spaces (b ∷ s) =
     length-append (spaceIf spaces) (hexByte b ++ furtherHex spaces s) ∙ rw (further-length spaces s, mul-suc) (omega arith)
 
 -- two digits for each byte, and a space after each but the last
-pub data-length : (spaces : Bool) (s : List ℕ) → length (dataHex spaces s) ≡ (2 + length (spaceIf spaces)) * length s - length (spaceIf spaces)
+pub data-length : (spaces : Bool) (s : List ℕ) → length (dataHex spaces s) ≡ dataSize spaces (length s)
 data-length spaces [] = omega arith
 data-length spaces (b ∷ s) = rw (further-length spaces s, mul-suc) (omega arith)
 
 -- five digits, and a space after the id and after the length
-header-length : (spaces headers : Bool) (l : Line) → length (cond headers (header spaces l) []) ≡ cond headers (5 + 2 * length (spaceIf spaces)) 0
+header-length : (spaces headers : Bool) (l : Line) → length (cond headers (header spaces l) []) ≡ headerSize spaces headers
 header-length spaces true l = omega (arith, length-append (spaceIf spaces) (hexByte (length (l .bytes)) ++ spaceIf spaces))
 header-length spaces false l = refl
 
@@ -39,29 +41,29 @@ line-parts spaces headers l = length-append (cond headers (header spaces l) []) 
 
 -- how long a line of so many bytes is
 abbrev pub lineSize : Bool → Bool → ℕ → ℕ
-lineSize spaces headers n = cond headers (5 + 2 * length (spaceIf spaces)) 0 + ((2 + length (spaceIf spaces)) * n - length (spaceIf spaces))
+lineSize spaces headers n = headerSize spaces headers + dataSize spaces n
 
 pub line-length : (spaces headers : Bool) (l : Line) → length (lineText spaces headers l) ≡ lineSize spaces headers (length (l .bytes))
 line-length spaces headers l = line-parts spaces headers l ∙ rw (header-length spaces headers l, data-length spaces (l .bytes))
 
 -- How long it is at most
 
-pub header-short : (spaces headers : Bool) (l : Line) → length (cond headers (header spaces l) []) ≤ 7
-header-short true true l = omega arith
-header-short false true l = omega arith
-header-short spaces false l = omega arith
+pub header-short : (spaces headers : Bool) → headerSize spaces headers ≤ 7
+header-short true true = omega arith
+header-short false true = omega arith
+header-short spaces false = omega arith
 
-pub data-short : (spaces : Bool) (s : List ℕ) → length s ≤ 255 → length (dataHex spaces s) ≤ 764
-data-short true s h = omega (arith, data-length true s)
-data-short false s h = omega (arith, data-length false s)
+pub no-data : (spaces : Bool) (n : ℕ) → n ≡ 0 → 0 ≡ dataSize spaces n
+no-data true n h = omega arith
+no-data false n h = omega arith
+
+pub data-short : (spaces : Bool) (n : ℕ) → n ≤ 255 → dataSize spaces n ≤ 764
+data-short true n h = omega arith
+data-short false n h = omega arith
 
 pub ending-short : (linefeeds : Bool) → length (lineEnding linefeeds) ≤ 2
 ending-short true = omega arith
 ending-short false = omega arith
-
-pub line-short : (spaces headers : Bool) (l : Line) → length (l .bytes) ≤ 255 → length (lineText spaces headers l) ≤ 771
-line-short spaces headers l h =
-    omega (arith, line-parts spaces headers l, header-short spaces headers l, data-short spaces (l .bytes) h)
 
 -- A whole reply
 
@@ -95,11 +97,6 @@ none-length linefeeds spaces headers =
 
 -- The walk that adds up the lines
 
--- the data of a line that stands in a list
-pub here-short : (s : List ℕ) (at e start next : ℕ) → LineHere s at e start next → length (take (next - start) (drop start s)) ≤ 255
-here-short s at e start next w =
-    omega (arith, w .short, w .inside, length-drop start s, length-take (next - start) (drop start s))
-
 module _ (linefeeds spaces headers : Bool) where
   -- the answer when the lines so far make the size, and the others are read as said
   abbrev pub sized : ℕ → Read (List Line) → Answer ℕ
@@ -126,21 +123,20 @@ module _ (linefeeds spaces headers : Bool) where
     size-start at h e = rw e (sized-all (readAllLines 64 s) (λ rest q. h (no-lines 64 s rest q)))
 
     -- a line at the cursor, whose size is r
-    pub size-short : (at e start next r : ℕ) → LineHere s at e start next →
-        r ≡ length (lineText spaces headers (line e (take (next - start) (drop start s)))) + length (lineEnding linefeeds) → r ≤ 773
-    size-short at e start next r w q = omega (
-      arith,
-      line-short spaces headers (line e (take (next - start) (drop start s))) (here-short s at e start next w),
-      ending-short linefeeds,
-    )
+    pub size-short : (at e start next r : ℕ) → LineHere s at e start next → r ≡ lineSize spaces headers (next - start) + length (lineEnding linefeeds) → r ≤ 773
+    size-short at e start next r w q = omega (arith, header-short spaces headers, data-short spaces (next - start) (w .short), ending-short linefeeds)
+
+    here-size : (at e start next : ℕ) → LineHere s at e start next → length (lineText spaces headers (line e (take (next - start) (drop start s)))) ≡ lineSize spaces headers (next - start)
+    here-size at e start next w =
+        line-length spaces headers (line e (take (next - start) (drop start s))) ∙
+        ap (lineSize spaces headers) (length-take-le (next - start) (drop start s) (omega (arith, w .inside, length-drop start s)))
 
     module _ (size n at : ℕ) where
-      pub size-line : (e start next r : ℕ) → LineHere s at e start next →
-          r ≡ length (lineText spaces headers (line e (take (next - start) (drop start s)))) + length (lineEnding linefeeds) → n ≤ 64 → (n ≡ 64 → ⊥) →
+      pub size-line : (e start next r : ℕ) → LineHere s at e start next → r ≡ lineSize spaces headers (next - start) + length (lineEnding linefeeds) → n ≤ 64 → (n ≡ 64 → ⊥) →
           sized size (readAllLines (64 - n) (drop at s)) ≡ sized (size + r) (readAllLines (64 - (n + 1)) (drop next s))
       size-line e start next r w q h k =
           let one : 64 - n ≡ suc (64 - (n + 1)) = omega arith in
-          rw (one, left-line (64 - (n + 1)) s at e start next w, q)
+          rw (one, left-line (64 - (n + 1)) s at e start next w, q, ← here-size at e start next w)
           (sized-line size (line e (take (next - start) (drop start s))) (readAllLines (64 - (n + 1)) (drop next s)))
 
       -- one line more than a list may have

@@ -1,3 +1,4 @@
 pub mod Shape
 pub mod Reply
 pub mod Answers
+pub mod Steps

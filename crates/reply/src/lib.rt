@@ -2,17 +2,19 @@
 use line_list::LineCursor;
 use line_list::LineStep;
 ghost use mathlib.Core.Path.{_≡_};
-ghost use mathlib.Core.Bool.{cond};
-ghost use mathlib.Core.List.{List, [], _∷_, map};
+ghost use mathlib.Core.Bool.{true, false, cond};
+ghost use mathlib.Core.List.{List, [], _∷_, _++_, map};
 ghost use Prim.Native.Nat.{ℕ, _+_, _≤_};
-ghost use lib.ListN.{length};
+ghost use lib.ListN.{length, drop};
 ghost use Rattle.wire.specs.Put.{Put};
+ghost use Rattle.hex.specs.Digits.{hexByte, hexId};
 ghost use Rattle.group.specs.Group.{got};
 ghost use Rattle.client_state.specs.Settings.{lineEnding};
 ghost use Rattle.line_list.specs.Lines.{Line, line, lineList};
 ghost use Rattle.reply.specs.Shape.{chipReply};
-ghost use Rattle.reply.specs.Reply.{ecuId, spaceIf, dataHex, header, lineText};
+ghost use Rattle.reply.specs.Reply.{ecuId, spaceIf, furtherHex, lineText};
 ghost use Rattle.reply.specs.Answers.{lent, replied, sizeAnswer, replySize};
+ghost use Rattle.reply.specs.Steps.{headerSize, dataSize, Room};
 
 pub enum ReplyAnswer {
     // So many bytes stand at the front of out.
@@ -67,34 +69,63 @@ fn ecu_id(ecu: u16) -> u16
     ecu - 1
 }
 
-// The header of a line: its ECU, and how many bytes it has (255 at most) in two digits.
-fn put_header(out: &mut [u8], at: usize, ecu: u16, payload: &[u8], spaces: bool) -> usize
-    ensures { λ r. ⌜ Put (now (out .entry)) at (header spaces (line ecu (now (payload .entry)))) r (now (out .exit)) ⌝ }
+// The header of a line, if on: its ECU, and how many bytes it has (255 at most) in two digits.
+fn put_header(
+    out: &mut [u8],
+    at: usize,
+    ecu: u16,
+    size: usize,
+    spaces: bool,
+    headers: bool,
+) -> usize
+    ensures { λ r. ⌜ Put (now (out .entry)) at (cond headers (hexId (ecuId ecu) ++ (spaceIf spaces ++ (hexByte size ++ spaceIf spaces))) []) r (now (out .exit)) ⌝ }
 {
-    let at = hex::put_hex_id(out, at, ecu_id(ecu));
-    let at = put_space(out, at, spaces);
-    let at = hex::put_hex_byte(out, at, (payload.len() % 256) as u8);
-    put_space(out, at, spaces)
-}
-
-// Data in capital hex.
-fn put_data(out: &mut [u8], at: usize, payload: &[u8], spaces: bool) -> usize
-    ensures { λ r. ⌜ Put (now (out .entry)) at (dataHex spaces (now (payload .entry))) r (now (out .exit)) ⌝ }
-{
-    if payload.len() == 0 {
-        return at;
-    }
-    let mut at = hex::put_hex_byte(out, at, payload[0]);
-    let mut i: usize = 1;
-    while i < payload.len() {
-        at = put_space(out, at, spaces);
-        at = hex::put_hex_byte(out, at, payload[i]);
-        i += 1;
+    if headers {
+        let at = hex::put_hex_id(out, at, ecu_id(ecu));
+        let at = put_space(out, at, spaces);
+        let at = hex::put_hex_byte(out, at, (size % 256) as u8);
+        return put_space(out, at, spaces);
     }
     at
 }
 
-// A line, without its ending.
+// The bytes after the first with a space before each, where there is room. The digits are read from a table, since the machine cannot join these stores.
+fn put_spaced(out: &mut [u8], at: usize, payload: &[u8]) -> usize
+    requires { ⌜ at + length (furtherHex true (drop 1 (now payload))) ≤ length (now out) ⌝ }
+    ensures { λ r. ⌜ Put (now (out .entry)) at (furtherHex true (drop 1 (now (payload .entry)))) r (now (out .exit)) ⌝ }
+{
+    let digits = b"0123456789ABCDEF";
+    let mut to = at;
+    let mut i: usize = 1;
+    while i < payload.len() {
+        let byte = payload[i];
+        out[to] = b' ';
+        out[to + 1] = digits[(byte / 16) as usize];
+        out[to + 2] = digits[(byte % 16) as usize];
+        to += 3;
+        i += 1;
+    }
+    to
+}
+
+// The bytes after the first with nothing before them, where there is room. The digits are computed, so that the machine can make many in one step.
+fn put_joined(out: &mut [u8], at: usize, payload: &[u8]) -> usize
+    requires { ⌜ at + length (furtherHex false (drop 1 (now payload))) ≤ length (now out) ⌝ }
+    ensures { λ r. ⌜ Put (now (out .entry)) at (furtherHex false (drop 1 (now (payload .entry)))) r (now (out .exit)) ⌝ }
+{
+    let mut to = at;
+    let mut i: usize = 1;
+    while i < payload.len() {
+        let byte = payload[i];
+        out[to] = hex::hex_char(byte / 16);
+        out[to + 1] = hex::hex_char(byte);
+        to += 2;
+        i += 1;
+    }
+    to
+}
+
+// A line, without its ending, where there is room.
 fn put_line_text(
     out: &mut [u8],
     at: usize,
@@ -103,13 +134,18 @@ fn put_line_text(
     spaces: bool,
     headers: bool,
 ) -> usize
+    requires { ⌜ at + length (lineText spaces headers (line ecu (now payload))) ≤ length (now out) ⌝ }
     ensures { λ r. ⌜ Put (now (out .entry)) at (lineText spaces headers (line ecu (now (payload .entry)))) r (now (out .exit)) ⌝ }
 {
-    if headers {
-        let start = put_header(out, at, ecu, payload, spaces);
-        return put_data(out, start, payload, spaces);
+    let start = put_header(out, at, ecu, payload.len(), spaces, headers);
+    if payload.len() == 0 {
+        return start;
     }
-    put_data(out, at, payload, spaces)
+    let next = hex::put_hex_byte(out, start, payload[0]);
+    if spaces {
+        return put_spaced(out, next, payload);
+    }
+    put_joined(out, next, payload)
 }
 
 fn ending_size(linefeeds: bool) -> usize
@@ -123,7 +159,7 @@ fn ending_size(linefeeds: bool) -> usize
 
 // A header has five digits and, if spaces are on, two spaces.
 fn header_size(spaces: bool, headers: bool) -> usize
-    ensures { λ r. ⌜ ((l : Line) → r ≡ length (cond headers (header spaces l) [])) ⌝ }
+    ensures { λ r. ⌜ r ≡ headerSize spaces headers ⌝ }
 {
     if headers {
         if spaces {
@@ -135,11 +171,10 @@ fn header_size(spaces: bool, headers: bool) -> usize
 }
 
 // A byte has two digits and, if spaces are on, all but the last have a space.
-fn data_size(payload: &[u8], spaces: bool) -> usize
-    requires { ⌜ length (now payload) ≤ 255 ⌝ }
-    ensures { λ r. ⌜ r ≡ length (dataHex spaces (now (payload .entry))) ⌝ }
+fn data_size(n: usize, spaces: bool) -> usize
+    requires { ⌜ n ≤ 255 ⌝ }
+    ensures { λ r. ⌜ r ≡ dataSize spaces n ⌝ }
 {
-    let n = payload.len();
     if n == 0 {
         return 0;
     }
@@ -149,12 +184,12 @@ fn data_size(payload: &[u8], spaces: bool) -> usize
     2 * n
 }
 
-// How long a line is with its ending, whatever its ECU.
-fn line_size(payload: &[u8], linefeeds: bool, spaces: bool, headers: bool) -> usize
-    requires { ⌜ length (now payload) ≤ 255 ⌝ }
-    ensures { λ r. ⌜ ((e : ℕ) → r ≡ length (lineText spaces headers (line e (now (payload .entry)))) + length (lineEnding linefeeds)) ⌝ }
+// How long a line of n bytes is with its ending.
+fn line_size(n: usize, linefeeds: bool, spaces: bool, headers: bool) -> usize
+    requires { ⌜ n ≤ 255 ⌝ }
+    ensures { λ r. ⌜ r ≡ headerSize spaces headers + dataSize spaces n + length (lineEnding linefeeds) ⌝ }
 {
-    header_size(spaces, headers) + data_size(payload, spaces) + ending_size(linefeeds)
+    header_size(spaces, headers) + data_size(n, spaces) + ending_size(linefeeds)
 }
 
 // How long the reply to a line list is: one walk checks the list and adds up its lines.
@@ -168,7 +203,7 @@ fn reply_size(list: &[u8], linefeeds: bool, spaces: bool, headers: bool) -> Repl
         // `NO DATA`.
         return ReplySize::Size(7 + ending + size);
     }
-    let mut cursor = LineCursor::new();
+    let mut cursor = LineCursor { at: 0 };
     let mut lines: usize = 0;
     loop {
         match cursor.step(list) {
@@ -181,7 +216,7 @@ fn reply_size(list: &[u8], linefeeds: bool, spaces: bool, headers: bool) -> Repl
                     return ReplySize::Malformed;
                 }
                 let end = next.at;
-                size = size + line_size(&list[start..end], linefeeds, spaces, headers);
+                size = size + line_size(end - start, linefeeds, spaces, headers);
                 cursor = next;
                 lines += 1;
             }
@@ -191,11 +226,12 @@ fn reply_size(list: &[u8], linefeeds: bool, spaces: bool, headers: bool) -> Repl
     }
 }
 
-// The lines of a well-formed list, then the prompt, from the start of out on.
+// The lines of a well-formed list, then the prompt, from the start of out on, where there is room for them.
 fn write_lines(list: &[u8], linefeeds: bool, spaces: bool, headers: bool, out: &mut [u8]) -> usize
+    requires { ⌜ Room linefeeds spaces headers (now list) (now out) ⌝ }
     ensures { λ r. ⌜ ((ls : List Line) (rest : List ℕ) → lineList (now (list .entry)) ≡ got ls rest → Put (now (out .entry)) 0 (chipReply linefeeds (map (lineText spaces headers) ls)) r (now (out .exit))) ⌝ }
 {
-    let mut cursor = LineCursor::new();
+    let mut cursor = LineCursor { at: 0 };
     let mut at: usize = 0;
     loop {
         match cursor.step(list) {

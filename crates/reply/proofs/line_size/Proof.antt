@@ -1,9 +1,7 @@
 -- `reply::line_size` meets its contract. Its sum fits, since a line has at most 255 bytes.
-use mathlib.Core.List.{[]}
 use native.Mathlib.Omega.{arith}
 use borrow.Author.Needs.{needs}
-use Rattle.reply.proofs.SizeLaws.{header-short, data-short, ending-short, line-parts}
-use Rattle.line_list.specs.Lines.{line}
+use Rattle.reply.proofs.SizeLaws.{header-short, data-short, ending-short}
 use Rattle.reply.proofs.line_size.Statement.{statement}
 use Rattle.reply.proofs.line_size.Tie as tie
 
@@ -14,16 +12,16 @@ data-size-requires : tie.Need-data-size-requires
 data-size-requires c κs = search needs
 
 add-result : tie.Need-add-result
-add-result c = omega (arith, header-short (c .before .before .before .args .spaces) (c .before .before .before .args .headers) (line 0 []), c .before .header-size .ensures (line 0 []), data-short (c .before .before .before .args .spaces) (c .before .before .before .args .payload .now) (c .before .before .before .pre), c .data-size .ensures)
+add-result c = omega (arith, header-short (c .before .before .args .spaces) (c .before .before .args .headers), data-short (c .before .before .args .spaces) (c .before .before .args .n) (c .before .before .pre), c .before .header-size .ensures, c .data-size .ensures)
 
 ending-size-requires : tie.Need-ending-size-requires
 ending-size-requires c κs = search needs
 
 add-result-2 : tie.Need-add-result-2
-add-result-2 c = omega (arith, header-short (c .before .before .before .before .args .spaces) (c .before .before .before .before .args .headers) (line 0 []), c .before .before .header-size .ensures (line 0 []), data-short (c .before .before .before .before .args .spaces) (c .before .before .before .before .args .payload .now) (c .before .before .before .before .pre), c .before .data-size .ensures, ending-short (c .before .before .before .before .args .linefeeds), c .ending-size .ensures)
+add-result-2 c = omega (arith, header-short (c .before .before .before .args .spaces) (c .before .before .before .args .headers), data-short (c .before .before .before .args .spaces) (c .before .before .before .args .n) (c .before .before .before .pre), ending-short (c .before .before .before .args .linefeeds), c .before .before .header-size .ensures, c .before .data-size .ensures, c .ending-size .ensures)
 
 returns : tie.Need-returns
-returns c = λ e. omega (arith, line-parts (c .before .before .before .before .args .spaces) (c .before .before .before .before .args .headers) (line e (c .before .before .before .before .args .payload .now)), c .before .before .header-size .ensures (line e (c .before .before .before .before .args .payload .now)), c .before .data-size .ensures, c .ending-size .ensures)
+returns c = search needs
 
 pub line-size-spec : {M : Type 1} → statement M
 line-size-spec =

@@ -1,7 +1,7 @@
 -- `reply::put_header` meets its contract: its writers follow one another. The cast keeps the low eight bits, which two digits go by.
 use borrow.Author.Needs.{needs}
 use Rattle.hex.proofs.DigitLaws.{byte-low}
-use Rattle.wire.proofs.PutLaws.{put-then}
+use Rattle.wire.proofs.PutLaws.{put-none, put-then}
 use Rattle.reply.proofs.put_header.Statement.{statement}
 use Rattle.reply.proofs.put_header.Tie as tie
 
@@ -27,7 +27,10 @@ same-length : tie.Need-same-length
 same-length c = search needs
 
 returns : tie.Need-returns
-returns c = put-then (rw (c .before .before .before .before .before .before .before .before .before .before .before .before .before .before .before .ecu-id .ensures) at (c .before .before .before .before .before .before .before .before .before .before .before .before .before .before .put-hex-id .ensures)) (put-then (c .before .before .before .before .before .before .before .before .before .before .put-space .ensures) (put-then (rw byte-low at (c .before .before .before .before .before .before .put-hex-byte .ensures)) (c .before .before .put-space2 .ensures)))
+returns c = rw (c .before .before .before .before .before .before .before .before .before .before .before .before .before .before .before .before .before .if1 .taken) (put-then (rw (c .before .before .before .before .before .before .before .before .before .before .before .before .before .before .before .ecu-id .ensures) at (c .before .before .before .before .before .before .before .before .before .before .before .before .before .before .put-hex-id .ensures)) (put-then (c .before .before .before .before .before .before .before .before .before .before .put-space .ensures) (put-then (rw byte-low at (c .before .before .before .before .before .before .put-hex-byte .ensures)) (c .before .before .put-space2 .ensures))))
+
+returns-2 : tie.Need-returns-2
+returns-2 c = rw (c .if1 .left) (put-none _ _)
 
 pub put-header-spec : {M : Type 1} → statement M
 put-header-spec =
@@ -40,4 +43,5 @@ put-header-spec =
     put-hex-byte-requires
     put-space-requires-2
     same-length
-    returns)
+    returns
+    returns-2)

@@ -1,10 +1,10 @@
 -- `reply::reply_size` meets its contract. The invariant: the size so far, and the lines read from here on, give the answer for the whole list.
-use mathlib.Core.Path.{_≡_, sym, _∙_}
+use mathlib.Core.Path.{_≡_, refl, sym, _∙_}
 use Prim.Native.Nat.{_+_, _-_, _*_, _≤_}
 use native.Mathlib.Omega.{arith}
 use lib.ListN.{drop}
 use borrow.Author.Needs.{needs}
-use Rattle.reply.proofs.SizeLaws.{ending-short, sized, here-short, size-none, size-start, size-line, size-short, size-end, size-bad, size-full}
+use Rattle.reply.proofs.SizeLaws.{ending-short, sized, size-none, size-start, size-line, size-short, size-end, size-bad, size-full}
 use Rattle.reply.specs.Answers.{replySize}
 use Rattle.line_list.proofs.StepLaws.{step-line, step-end, step-none}
 use Rattle.line_list.specs.Lines.{readAllLines}
@@ -33,11 +33,8 @@ add-t15 c = omega (arith, ending-short (c .before .before .before .args .linefee
 returns : tie.Need-returns Inv-loop μ-loop
 returns c = rw (c .before .ending-size .ensures) (size-none _ _ _ _ (c .if1 .taken))
 
-new-requires : tie.Need-new-requires Inv-loop μ-loop
-new-requires c κs = search needs
-
 loop-holds : tie.Need-loop-holds Inv-loop μ-loop
-loop-holds c = (omega arith, omega (arith, ending-short (c .before .before .before .before .args .linefeeds), c .before .before .ending-size .ensures), rw (c .before .before .ending-size .ensures) (size-start _ _ _ _ _ (c .before .if1 .left) (c .new .ensures)))
+loop-holds c = (omega arith, omega (arith, ending-short (c .before .before .before .args .linefeeds), c .before .ending-size .ensures), rw (c .before .ending-size .ensures) (size-start _ _ _ _ _ (c .if1 .left) refl))
 
 step-requires : tie.Need-step-requires Inv-loop μ-loop
 step-requires c κs = search needs
@@ -51,38 +48,35 @@ returns-2 c = let w = step-line _ _ (c .before .before .before .before .step .en
 sub-line-size : tie.Need-sub-line-size Inv-loop μ-loop
 sub-line-size c = let w = step-line _ _ (c .before .before .before .before .step .ensures) (c .before .before .start .given .1) in omega arith
 
-part-line-size-start : tie.Need-part-line-size-start Inv-loop μ-loop
-part-line-size-start c = let w = step-line _ _ (c .before .before .before .before .step .ensures) (c .before .before .start .given .1) in omega arith
-
-part-line-size-end : tie.Need-part-line-size-end Inv-loop μ-loop
-part-line-size-end c = let w = step-line _ _ (c .before .before .before .before .step .ensures) (c .before .before .start .given .1) in omega arith
-
 line-size-requires : tie.Need-line-size-requires Inv-loop μ-loop
-line-size-requires c κs = here-short _ _ _ _ _ (step-line _ _ (c .before .before .before .before .before .step .ensures) (c .before .before .before .start .given .1))
+line-size-requires c κs = let w = step-line _ _ (c .before .before .before .before .step .ensures) (c .before .before .start .given .1) in w .short
 
 add-size-2 : tie.Need-add-size-2 Inv-loop μ-loop
-add-size-2 c = omega (arith, size-short (c .before .before .before .before .before .before .before .before .before .before .before .before .args .linefeeds) (c .before .before .before .before .before .before .before .before .before .before .before .before .args .spaces) (c .before .before .before .before .before .before .before .before .before .before .before .before .args .headers) _ _ _ _ _ _ (step-line _ _ (c .before .before .before .before .before .before .step .ensures) (c .before .before .before .before .start .given .1)) (c .line-size .ensures _))
+add-size-2 c = omega (arith, size-short (c .before .before .before .before .before .before .before .before .before .before .args .linefeeds) (c .before .before .before .before .before .before .before .before .before .before .args .spaces) (c .before .before .before .before .before .before .before .before .before .before .args .headers) _ _ _ _ _ _ (step-line _ _ (c .before .before .before .before .before .step .ensures) (c .before .before .before .start .given .1)) (c .line-size .ensures))
 
 add-lines : tie.Need-add-lines Inv-loop μ-loop
 add-lines c = search needs
 
 loop-less : tie.Need-loop-less Inv-loop μ-loop
-loop-less c = omega (arith, c .before .before .if2 .left)
+loop-less c = omega (arith, c .before .if2 .left)
 
 loop-again : tie.Need-loop-again Inv-loop μ-loop
-loop-again c = (omega (arith, c .before .before .if2 .left), omega (arith, size-short (c .before .before .before .before .before .before .before .before .before .before .before .before .args .linefeeds) (c .before .before .before .before .before .before .before .before .before .before .before .before .args .spaces) (c .before .before .before .before .before .before .before .before .before .before .before .before .args .headers) _ _ _ _ _ _ (step-line _ _ (c .before .before .before .before .before .before .step .ensures) (c .before .before .before .before .start .given .1)) (c .line-size .ensures _)), sym (size-line _ _ _ _ _ _ _ _ _ _ _ (step-line _ _ (c .before .before .before .before .before .before .step .ensures) (c .before .before .before .before .start .given .1)) (c .line-size .ensures _) (c .before .before .before .before .before .before .before .loop .inv .0) (c .before .before .if2 .left)) ∙ c .before .before .before .before .before .before .before .loop .inv .2)
+loop-again c =
+    let inv = c .before .before .before .before .before .before .loop .inv in
+    let w = step-line _ _ (c .before .before .before .before .before .step .ensures) (c .before .before .before .start .given .1) in
+    (omega (arith, c .before .if2 .left), omega (arith, size-short (c .before .before .before .before .before .before .before .before .before .before .args .linefeeds) (c .before .before .before .before .before .before .before .before .before .before .args .spaces) (c .before .before .before .before .before .before .before .before .before .before .args .headers) _ _ _ _ _ _ w (c .line-size .ensures)), sym (size-line _ _ _ _ _ _ _ _ _ _ _ w (c .line-size .ensures) (inv .0) (c .before .if2 .left)) ∙ inv .2)
 
 enum-told : tie.Need-enum-told Inv-loop μ-loop
 enum-told c = search needs
 
 returns-3 : tie.Need-returns-3 Inv-loop μ-loop
-returns-3 c = sym (size-end (c .before .before .before .before .before .before .before .before .args .linefeeds) (c .before .before .before .before .before .before .before .before .args .spaces) (c .before .before .before .before .before .before .before .before .args .headers) _ (c .before .before .before .loop .size) (c .before .before .before .loop .lines) _ (step-end _ _ (c .before .before .step .ensures) (c .enum-told .given .1))) ∙ c .before .before .before .loop .inv .2
+returns-3 c = sym (size-end (c .before .before .before .before .before .before .before .args .linefeeds) (c .before .before .before .before .before .before .before .args .spaces) (c .before .before .before .before .before .before .before .args .headers) _ (c .before .before .before .loop .size) (c .before .before .before .loop .lines) _ (step-end _ _ (c .before .before .step .ensures) (c .enum-told .given .1))) ∙ c .before .before .before .loop .inv .2
 
 enum-told-2 : tie.Need-enum-told-2 Inv-loop μ-loop
 enum-told-2 c = search needs
 
 returns-4 : tie.Need-returns-4 Inv-loop μ-loop
-returns-4 c = let n = step-none _ _ (c .before .before .step .ensures) (c .enum-told2 .given .1) in sym (size-bad (c .before .before .before .before .before .before .before .before .args .linefeeds) (c .before .before .before .before .before .before .before .before .args .spaces) (c .before .before .before .before .before .before .before .before .args .headers) _ (c .before .before .before .loop .size) (c .before .before .before .loop .lines) _ (n .0) (n .1)) ∙ c .before .before .before .loop .inv .2
+returns-4 c = let n = step-none _ _ (c .before .before .step .ensures) (c .enum-told2 .given .1) in sym (size-bad (c .before .before .before .before .before .before .before .args .linefeeds) (c .before .before .before .before .before .before .before .args .spaces) (c .before .before .before .before .before .before .before .args .headers) _ (c .before .before .before .loop .size) (c .before .before .before .loop .lines) _ (n .0) (n .1)) ∙ c .before .before .before .loop .inv .2
 
 pub reply-size-spec : {M : Type 1} → statement M
 reply-size-spec =
@@ -95,14 +89,11 @@ reply-size-spec =
     add-t14
     add-t15
     returns
-    new-requires
     loop-holds
     step-requires
     enum-known-start
     returns-2
     sub-line-size
-    part-line-size-start
-    part-line-size-end
     line-size-requires
     add-size-2
     add-lines

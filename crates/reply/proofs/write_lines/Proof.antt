@@ -6,7 +6,7 @@ use native.Mathlib.Omega.{arith}
 use lib.Seq.{sets}
 use lib.ListN.{length}
 use borrow.Author.Needs.{needs}
-use Rattle.reply.proofs.WriteLaws.{linesText, Left, left-start, left-next, left-end, left-bad}
+use Rattle.reply.proofs.WriteLaws.{linesText, Left, left-start, left-room, left-next, left-end, left-bad}
 use Rattle.line_list.proofs.StepLaws.{step-line, step-end, step-none}
 use Rattle.line_list.specs.Lines.{Line, lineList}
 use Rattle.group.specs.Group.{got}
@@ -22,11 +22,8 @@ Inv-loop list linefeeds spaces headers out₀ cursor₀ at₀ out cursor at =
 abbrev μ-loop : tie.MeasureT-loop
 μ-loop list linefeeds spaces headers out₀ cursor₀ at₀ out cursor at = length list - cursor .at
 
-new-requires : tie.Need-new-requires Inv-loop μ-loop
-new-requires c κs = search needs
-
 loop-holds : tie.Need-loop-holds Inv-loop μ-loop
-loop-holds c = (refl, λ ls rest q. left-start _ _ _ _ _ _ ls rest (c .new .ensures) q)
+loop-holds c = (refl, left-start _ _ _ _ _ _ (c .before .before .pre) refl)
 
 step-requires : tie.Need-step-requires Inv-loop μ-loop
 step-requires c κs = search needs
@@ -44,7 +41,9 @@ part-put-line-text-end : tie.Need-part-put-line-text-end Inv-loop μ-loop
 part-put-line-text-end c = let w = step-line _ _ (c .before .before .before .before .step .ensures) (c .before .before .ecu .given .1) in omega arith
 
 put-line-text-requires : tie.Need-put-line-text-requires Inv-loop μ-loop
-put-line-text-requires c κs = search needs
+put-line-text-requires c κs =
+    let k = c .before .before .before .before .before .before .before .before .before .pre in
+    left-room _ _ _ _ _ (c .before .before .before .before .before .before .loop .inv .1 (k .lines) (k .rest) (k .reads)) _ _ _ (step-line _ _ (c .before .before .before .before .before .step .ensures) (c .before .before .before .ecu .given .1))
 
 put-line-ending-requires : tie.Need-put-line-ending-requires Inv-loop μ-loop
 put-line-ending-requires c κs = search needs
@@ -82,7 +81,6 @@ write-lines-spec =
     (tie.spec
     Inv-loop
     μ-loop
-    new-requires
     loop-holds
     step-requires
     enum-known-ecu

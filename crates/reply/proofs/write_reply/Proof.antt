@@ -1,7 +1,7 @@
 -- `reply::write_reply` meets its contract: the size decides, and the text is then written whole.
 use native.Mathlib.Omega.{arith}
 use borrow.Author.Needs.{needs}
-use Rattle.reply.proofs.AnswerLaws.{answer-malformed, answer-small, answer-none, answer-some}
+use Rattle.reply.proofs.AnswerLaws.{answer-malformed, answer-small, answer-none, answer-room, answer-some}
 use Rattle.reply.proofs.write_reply.Statement.{statement}
 use Rattle.reply.proofs.write_reply.Tie as tie
 
@@ -21,7 +21,7 @@ returns-2 : tie.Need-returns-2
 returns-2 c = answer-small _ _ _ (c .before .before .before .before .before .before .before .args .list .now) (c .before .before .before .before .before .before .before .args .out .now) (c .before .before .before .before .reply-size .ensures) (c .before .before .size .given .1) (omega (arith, c .if1 .taken))
 
 write-lines-requires : tie.Need-write-lines-requires
-write-lines-requires c κs = search needs
+write-lines-requires c κs = answer-room _ _ _ (c .before .before .before .before .before .before .before .before .before .args .list .now) (c .before .before .before .before .before .before .before .before .before .args .out .now) (c .before .before .before .before .before .before .reply-size .ensures) (c .before .before .before .before .size .given .1) (omega (arith, c .before .before .if1 .left)) (omega (arith, c .before .if2 .taken))
 
 same-length : tie.Need-same-length
 same-length c = search needs
