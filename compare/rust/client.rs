@@ -44,13 +44,14 @@ pub fn config(framing: bool, repeat: bool) -> ClientConfig {
     ClientConfig { framing, repeat, reset_wait: Duration::ZERO, timeout: Duration::ZERO }
 }
 
-fn outcome<T, L>(result: io::Result<HashMap<u8, L>>, lines: T) -> Outcome
-where
-    T: Fn(&L) -> &[ReplyLine],
-{
-    let Ok(map) = result else { return Outcome::Failed };
+/// The values of an answer.
+pub fn values<L>(map: HashMap<u8, L>, lines: impl Fn(&L) -> &[ReplyLine]) -> Values {
     let value = |line: &ReplyLine| (line.ecu.map_or(0, |ecu| ecu + 1), line.data.to_vec());
-    Outcome::Values(map.iter().map(|(pid, found)| (*pid, lines(found).iter().map(value).collect())).collect())
+    map.iter().map(|(pid, found)| (*pid, lines(found).iter().map(value).collect())).collect()
+}
+
+fn outcome<L>(result: io::Result<HashMap<u8, L>>, lines: impl Fn(&L) -> &[ReplyLine]) -> Outcome {
+    result.map_or(Outcome::Failed, |map| Outcome::Values(values(map, lines)))
 }
 
 fn call(session: &mut ClientSession<Stream>, start: &Start) -> Outcome {

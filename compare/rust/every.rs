@@ -1,12 +1,14 @@
 //! Cases that go through every input of a kind: all short texts, all PIDs, every length up to its limit, failures at every point.
 use crate::client::{Call, ClientCase, Start};
-use crate::server::{Answer, Own, ServerCase};
+use crate::run::{script, Query, RunCase, FULL_ROOM};
+use crate::server::{put_group, Answer, Line, Own, ServerCase};
 use crate::stream::Arrival;
 
 /// Takes the cases, one after the other.
 pub trait Take {
     fn client(&mut self, case: ClientCase);
     fn server(&mut self, case: ServerCase);
+    fn run(&mut self, case: RunCase);
 }
 
 fn piece(text: &[u8]) -> Arrival {
@@ -265,6 +267,115 @@ fn server_lengths(to: &mut impl Take) {
     }
 }
 
+/// A line of a known or unknown ECU.
+pub fn line(ecu: u16, data: &[u8]) -> Line {
+    (ecu.checked_sub(1), data.to_vec())
+}
+
+pub fn query(pids: &[u8], count: Option<u8>, lines: Vec<Line>) -> Query {
+    Query { pids: pids.to_vec(), count, lines }
+}
+
+/// A run with a large record buffer.
+pub fn bench(repeat: bool, queries: &[Query], pieces: &[u8]) -> RunCase {
+    RunCase { repeat, script: script(queries), pieces: pieces.to_vec(), room: FULL_ROOM }
+}
+
+/// Document 01's worked example.
+pub const WORKED: &[u8] = &[0x01, 0x0C, 0x02, 0x01, 0x00, 0x04, 0x41, 0x0C, 0x1A, 0xF8];
+
+/// A drive: several ECUs, an unknown one, repeats, a query without lines before and after a repeat, PIDs outside the table, a line that does not start with 41.
+pub fn drive() -> Vec<Query> {
+    let speed = |value: u8| query(&[0x0C], Some(1), vec![line(0x7E9, &[0x41, 0x0C, 0x1A, value]), line(0x7EA, &[0x41, 0x0C, 0x1B, value])]);
+    let pair = || query(&[0x0C, 0x0D], None, vec![line(0, &[0x41, 0x0C, 0x1A, 0xF8, 0x0D, 0x20])]);
+    let none = || query(&[0x05], Some(0), Vec::new());
+    let learned = |value: u8| query(&[0xE0], None, vec![line(0x7E9, &[0x41, 0xE0, value, 2, 3]), line(0, &[0x41, 0xE0, 4, 5, 6])]);
+    let disagreeing = || query(&[0xE1], None, vec![line(1, &[0x41, 0xE1, 1]), line(0x1000, &[0x41, 0xE1, 2, 3])]);
+    let mixed = || query(&[0xE0, 0xE1, 0x0D, 0x0D], Some(255), vec![line(0, &[0x41, 0xE0, 1, 2, 3, 0x0D, 0x30, 0xE1, 9, 9]), line(0, &[0x7F, 1, 0x12])]);
+    vec![speed(1), speed(2), speed(2), none(), none(), speed(3), pair(), pair(), learned(1), learned(2), disagreeing(), disagreeing(), mixed(), mixed()]
+}
+
+/// A script with one more group number in place of another, of every form: each is malformed unless it is in reach and in its shortest form.
+fn forms(to: &mut impl Take) {
+    let mut numbers: Vec<Vec<u8>> = Vec::new();
+    for n in (0..=300).chain(4090..=4100).chain([16_383, 16_384, 2_097_152]) {
+        let mut short = Vec::new();
+        put_group(&mut short, n);
+        let mut long = short.clone();
+        *long.last_mut().expect("a number has a byte") += 128;
+        long.push(0);
+        numbers.push(short);
+        numbers.push(long);
+    }
+    numbers.push(vec![0xFF; 12]);
+    numbers.push([vec![0xFF; 12], vec![1]].concat());
+    numbers.push([vec![0x80; 12], vec![1]].concat());
+    numbers.push([vec![0x82], vec![0x80; 11], vec![0]].concat());
+    for number in numbers {
+        let pids = [&number[..], &[0x0C; 7]].concat();
+        let count = [&[1, 0x0C], &number[..], &[1, 0, 4, 0x41, 0x0C, 0x1A, 0xF8]].concat();
+        let lines = [&[1, 0x0C, 0], &number[..], &[0, 3, 0x41, 0x0D, 0x20].repeat(64)].concat();
+        let exactly = [&[1, 0x0C, 0], &number[..], &[0, 3, 0x41, 0x0D, 0x20].repeat(usize::from(number[0]))].concat();
+        let ecu = [&[1, 0x0C, 0, 1], &number[..], &[4, 0x41, 0x0C, 0x1A, 0xF8]].concat();
+        let size = [&[1, 0x0C, 0, 1, 0], &number[..], &[0x41, 0x0C, 0x1A, 0xF8]].concat();
+        let filled = [&[1, 0xE0, 0, 1, 0], &number[..], &vec![0x41; usize::from(number[0] % 128) + 128 * usize::from(*number.get(1).unwrap_or(&0))]].concat();
+        for script in [pids, count, lines, exactly, ecu, size, filled] {
+            to.run(RunCase { script, ..bench(true, &[], &[]) });
+        }
+    }
+}
+
+/// Whole bench runs: scripts cut off at every point, every record buffer up to one that is large enough, every length of a piece, numbers of lines and of bytes around
+/// their limits, replies around 4,096 bytes, scripts around 16,384.
+fn runs(to: &mut impl Take) {
+    let drive = drive();
+    let all = script(&drive);
+    for repeat in [false, true] {
+        for script in [WORKED, &all] {
+            for size in 0..=script.len() {
+                to.run(RunCase { script: script[..size].to_vec(), ..bench(repeat, &[], &[]) });
+            }
+        }
+        for room in 0..=260 {
+            to.run(RunCase { room, ..bench(repeat, &drive, &[]) });
+        }
+        for length in 0..=255 {
+            for times in [1, 7, 200] {
+                to.run(bench(repeat, &drive, &vec![length; times]));
+            }
+        }
+        for count in (0..=255).map(Some).chain([None]) {
+            for few in 1..=6 {
+                let asked = query(&[0x0C, 0x0D, 0x05, 0x0C, 0xE0, 0xE0][..few], count, vec![line(0x7E9, &[0x41, 0x0D, 0x20, 0x0C, 1, 2])]);
+                to.run(bench(repeat, &[asked.clone(), asked], &[3, 0, 1]));
+            }
+        }
+        // The lines of a reply are of an even length each: 5 digits, two for each byte, and CR.
+        for last in 230..=250 {
+            let mut lines = vec![line(0x7E9, &[0x41; 255]); 7];
+            lines.push(line(0x7E9, &vec![0x41; last]));
+            let long = query(&[0x41], None, lines);
+            let short = || query(&[0x0C], None, vec![line(0, &[0x41, 0x0C, 1, 2])]);
+            to.run(bench(repeat, &[short(), short(), long.clone(), short(), long], &[128, 127]));
+        }
+        for size in 0..=64 {
+            let many = query(&[0x0D], None, vec![line(0, &[0x41, 0x0D, size as u8]); size]);
+            to.run(bench(repeat, &[many.clone(), many], &[]));
+        }
+        for size in 0..=255 {
+            let data: Vec<u8> = [0x41, 0xE0].into_iter().chain(0..=255).take(size).collect();
+            let long = query(&[0xE0], None, vec![line(0, &data), line(0x800, &data)]);
+            to.run(bench(repeat, &[long.clone(), long], &[100]));
+        }
+        for size in 16_380..=16_390 {
+            let mut script: Vec<u8> = [0x01, 0x0D, 0x00, 0x00].repeat(4096);
+            script.resize(size, 0);
+            to.run(RunCase { script, ..bench(repeat, &[], &[]) });
+        }
+    }
+    forms(to);
+}
+
 pub fn every(to: &mut impl Take) {
     queries(to);
     client_lengths(to);
@@ -275,4 +386,5 @@ pub fn every(to: &mut impl Take) {
     digits(to);
     every_pid(to);
     short_replies(to);
+    runs(to);
 }

@@ -5,6 +5,9 @@ use std::collections::BTreeMap;
 /// Values by PID, in reply order: ECU+1 (0 when unknown) and data.
 pub type Values = BTreeMap<u8, Vec<(u16, Vec<u8>)>>;
 
+/// A query's part of a hire record.
+pub type Part = Values;
+
 /// What is known of a PID: its length, 256 when unknown, and its count and 1, 0 when not learned.
 pub type Known = (usize, usize);
 
@@ -21,6 +24,8 @@ pub enum Expected {
     Client { framing: bool, repeat: u8, multi: u8, last: Vec<u8>, known: Vec<Known> },
     /// The reply to a raw command.
     Reply(Vec<u8>),
+    /// A bench run: how it ended, and the parts of its record.
+    Run { code: u8, parts: Vec<Part> },
 }
 
 #[derive(Default)]
@@ -38,6 +43,8 @@ pub struct Tally {
     pub sessions: usize,
     pub calls: usize,
     pub states: usize,
+    /// Parts of records.
+    pub queries: usize,
     pub values: usize,
     /// Counts left out, as docs/DIFFERENCES.md says: unframed, of a PID that occurs more than 255 times.
     pub left_out: usize,
@@ -50,6 +57,7 @@ impl Tally {
         self.sessions += other.sessions;
         self.calls += other.calls;
         self.states += other.states;
+        self.queries += other.queries;
         self.values += other.values;
         self.left_out += other.left_out;
         for (name, times) in &other.seen {
@@ -88,20 +96,56 @@ fn number(bytes: &[u8], at: &mut usize) -> Option<usize> {
     }
 }
 
-/// Value records of document 01, by PID.
+/// A value record of document 01: the PID, ECU+1 and the data.
+fn read_value(bytes: &[u8], at: &mut usize) -> Option<(u8, (u16, Vec<u8>))> {
+    let pid = *bytes.get(*at)?;
+    *at += 1;
+    let ecu = u16::try_from(number(bytes, at)?).ok()?;
+    let size = number(bytes, at)?;
+    let data = bytes.get(*at..*at + size)?.to_vec();
+    *at += size;
+    Some((pid, (ecu, data)))
+}
+
+/// Values as far as the bytes reach, by PID.
 fn read_values(bytes: &[u8]) -> Option<Values> {
     let mut values = Values::new();
     let mut at = 0;
     while at < bytes.len() {
-        let pid = bytes[at];
-        at += 1;
-        let ecu = u16::try_from(number(bytes, &mut at)?).ok()?;
-        let size = number(bytes, &mut at)?;
-        let data = bytes.get(at..at + size)?.to_vec();
-        at += size;
-        values.entry(pid).or_default().push((ecu, data));
+        let (pid, value) = read_value(bytes, &mut at)?;
+        values.entry(pid).or_default().push(value);
     }
     Some(values)
+}
+
+/// The parts of a hire record, each with its number of values.
+fn read_parts(bytes: &[u8]) -> Option<Vec<(usize, Part)>> {
+    let mut parts = Vec::new();
+    let mut at = 0;
+    while at < bytes.len() {
+        let count = number(bytes, &mut at)?;
+        let mut part = Part::new();
+        for _ in 0..count {
+            let (pid, value) = read_value(bytes, &mut at)?;
+            part.entry(pid).or_default().push(value);
+        }
+        parts.push((count, part));
+    }
+    Some(parts)
+}
+
+/// Compares values PID by PID, and their number.
+fn same_values(rust: &Values, ours: &Values, count: usize) -> Result<(), String> {
+    for pid in 0..=255 {
+        let none = Vec::new();
+        let theirs = rust.get(&pid).unwrap_or(&none);
+        same(&format!("values of {pid:02X}"), theirs, ours.get(&pid).unwrap_or(&none), |v| format!("{v:02X?}"))?;
+    }
+    same("number of values", total(rust), count, |n| n.to_string())
+}
+
+fn total(values: &Values) -> usize {
+    values.values().map(Vec::len).sum()
 }
 
 impl Plan {
@@ -154,15 +198,11 @@ fn check_entry(
             let answer = log.answer();
             same("finish", 64, answer.code, |code| code.to_string())?;
             let ours = read_values(answer.sent).ok_or("the values are no values")?;
-            let total = values.values().map(Vec::len).sum::<usize>();
-            tally.values += total;
+            tally.values += total(values);
             for pid in 0..=255 {
-                let none = Vec::new();
-                let theirs = values.get(&pid).unwrap_or(&none);
-                same(&format!("values of {pid:02X}"), theirs, ours.get(&pid).unwrap_or(&none), |v| format!("{v:02X?}"))?;
-                often[usize::from(pid)] = !framed && 255 < theirs.len();
+                often[usize::from(pid)] = !framed && values.get(&pid).is_some_and(|found| 255 < found.len());
             }
-            same("number of values", total, answer.count, |n| n.to_string())
+            same_values(values, &ours, answer.count)
         }
         Expected::Client { framing, repeat, multi, last, known } => {
             tally.states += 1;
@@ -186,5 +226,16 @@ fn check_entry(
             Ok(())
         }
         Expected::Reply(reply) => same_bytes("reply", reply, log.text()),
+        Expected::Run { code, parts } => {
+            let answer = log.answer();
+            same("end of the run (64, or a number)", (*code, 0), (answer.code, answer.count), |pair| format!("{pair:?}"))?;
+            let ours = read_parts(answer.sent).ok_or("the record is no record")?;
+            for (n, (part, (count, our_part))) in parts.iter().zip(&ours).enumerate() {
+                same_values(part, our_part, *count).map_err(|what| format!("query {n}: {what}"))?;
+                tally.queries += 1;
+                tally.values += total(part);
+            }
+            same("number of parts", parts.len(), ours.len(), |n| n.to_string())
+        }
     }
 }
