@@ -12,10 +12,11 @@ use std::io::{self, ErrorKind, Read, Write};
 use std::rc::Rc;
 use tachtalk_elm327_lib::{ClientSession, Command, ServerSession};
 
-/// The numbers of document 01 that the Rust does not have, and the code of a run through all queries.
+/// The numbers of document 01 that the Rust does not have, what it would be if the Rust failed, and the code of a run through all queries.
 const TOO_LONG: u8 = 3;
 const MALFORMED: u8 = 5;
 const RECORD_FULL: u8 = 6;
+const FAILED: u8 = 7;
 const TOO_MUCH: u8 = 8;
 const COMPLETE: u8 = 64;
 
@@ -148,6 +149,9 @@ impl Far {
     /// The server takes what was written and answers each command; the client gets all that it sent, cut into pieces.
     fn answer(&mut self) {
         let command = std::mem::take(&mut self.written);
+        if command.is_empty() {
+            return;
+        }
         self.stream.load(&[Arrival::Piece(command)], None);
         loop {
             match self.session.next_command() {
@@ -192,7 +196,8 @@ impl Read for Near {
         if far.pending.is_empty() {
             far.answer();
         }
-        let piece = far.pending.pop_front().expect("the server answers every command");
+        // A reply without its prompt leaves nothing to read: a closed connection.
+        let Some(piece) = far.pending.pop_front() else { return Ok(0) };
         far.calls += 1;
         buffer[..piece.len()].copy_from_slice(&piece);
         Ok(piece.len())
@@ -234,7 +239,9 @@ impl RunCase {
         let Some(queries) = queries(&self.script) else { return (MALFORMED, Vec::new()) };
         let far = Rc::new(RefCell::new(Far::new(&self.pieces)));
         let mut client = ClientSession::new(Near(far.clone()), config(true, self.repeat));
-        client.init().expect("the server answers");
+        if client.init().is_err() {
+            return (FAILED, Vec::new());
+        }
         let mut parts = Vec::new();
         let mut room = self.room;
         let mut code = COMPLETE;
@@ -242,9 +249,10 @@ impl RunCase {
             far.borrow_mut().lines = lines;
             far.borrow_mut().longest = 0;
             let part = match pids[..] {
-                [pid] => values(client.query_pid(pid, count).expect("the server answers"), |lines| lines),
-                _ => values(client.query_pids(&pids, count).expect("the server answers"), |lines| lines),
+                [pid] => client.query_pid(pid, count).map(|map| values(map, |lines| lines)),
+                _ => client.query_pids(&pids, count).map(|map| values(map, |lines| lines)),
             };
+            let Ok(part) = part else { return (FAILED, parts) };
             far.borrow_mut().calls += 2;
             if 4096 < far.borrow().longest {
                 code = TOO_MUCH;
@@ -271,6 +279,7 @@ impl Case for RunCase {
             TOO_LONG => "scripts too long (3)",
             MALFORMED => "scripts malformed (5)",
             RECORD_FULL => "records full (6)",
+            FAILED => "runs that failed",
             TOO_MUCH => "replies too long (8)",
             _ => "runs through all queries",
         });
