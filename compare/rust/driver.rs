@@ -119,7 +119,7 @@ impl<'a> Log<'a> {
         usize::from(bytes[0]) + 256 * usize::from(bytes[1])
     }
 
-    fn bytes(&mut self, n: usize) -> &'a [u8] {
+    pub fn bytes(&mut self, n: usize) -> &'a [u8] {
         let (taken, left) = self.left.split_at(n);
         self.left = left;
         taken

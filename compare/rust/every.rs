@@ -11,34 +11,34 @@ pub trait Take {
     fn run(&mut self, case: RunCase);
 }
 
-fn piece(text: &[u8]) -> Arrival {
+pub fn piece(text: &[u8]) -> Arrival {
     Arrival::Piece(text.to_vec())
 }
 
-fn split(text: &[u8], size: usize) -> Vec<Arrival> {
+pub fn split(text: &[u8], size: usize) -> Vec<Arrival> {
     text.chunks(size).map(piece).collect()
 }
 
-fn call(start: Start, arrivals: Vec<Arrival>) -> Call {
+pub fn call(start: Start, arrivals: Vec<Arrival>) -> Call {
     Call { start, arrivals, failed_write: None }
 }
 
-fn asked(start: Start, reply: &[u8]) -> Call {
+pub fn asked(start: Start, reply: &[u8]) -> Call {
     call(start, split(reply, 128))
 }
 
-fn raw(command: &[u8]) -> Call {
+pub fn raw(command: &[u8]) -> Call {
     asked(Start::Command(command.to_vec()), b"OK\r\r>")
 }
 
 /// A session whose calls come after a raw ATH1 or ATH0.
-fn session(framed: bool, calls: Vec<Call>) -> ClientCase {
+pub fn session(framed: bool, calls: Vec<Call>) -> ClientCase {
     let mut all = vec![raw(if framed { b"ATH1" } else { b"ATH0" })];
     all.extend(calls);
     ClientCase { framing: false, repeat: true, calls: all }
 }
 
-fn reader(pieces: Vec<Vec<u8>>, answers: Vec<Answer>) -> ServerCase {
+pub fn reader(pieces: Vec<Vec<u8>>, answers: Vec<Answer>) -> ServerCase {
     ServerCase { own: Own::usual(), by_byte: false, pieces, answers }
 }
 
@@ -60,7 +60,7 @@ fn texts(bytes: &[u8], most: usize, take: &mut impl FnMut(&[u8])) {
 }
 
 /// Short replies to a query of one PID and to one of two.
-fn short_replies(to: &mut impl Take) {
+pub fn short_replies(to: &mut impl Take) {
     texts(b"014C+ \t\n\r>?\0Gaf", 4, &mut |text| {
         let mut reply = text.to_vec();
         reply.extend_from_slice(b"\r>");
@@ -73,7 +73,7 @@ fn short_replies(to: &mut impl Take) {
 }
 
 /// Every pair of bytes where a reply has a pair of digits, and some of three bytes where it has an id.
-fn digits(to: &mut impl Take) {
+pub fn digits(to: &mut impl Take) {
     for first in 0..128 {
         for second in 0..128 {
             for framed in [false, true] {
@@ -92,7 +92,7 @@ fn digits(to: &mut impl Take) {
 }
 
 /// Every PID, with two lines of each two lengths, and the query once more.
-fn every_pid(to: &mut impl Take) {
+pub fn every_pid(to: &mut impl Take) {
     for pid in 0..=255 {
         for framed in [false, true] {
             for (a, b) in (0..7).flat_map(|a| (0..7).map(move |b| (a, b))) {
@@ -110,7 +110,7 @@ fn every_pid(to: &mut impl Take) {
 }
 
 /// The texts of queries: every PID, every count, every number of PIDs.
-fn queries(to: &mut impl Take) {
+pub fn queries(to: &mut impl Take) {
     let reply = b"410C1AF8\r\r>";
     for n in 0..=255 {
         let counts = [None, Some(n)];
@@ -126,7 +126,7 @@ fn queries(to: &mut impl Take) {
 }
 
 /// Raw commands and replies of every length around the limits, in pieces of several sizes.
-fn client_lengths(to: &mut impl Take) {
+pub fn client_lengths(to: &mut impl Take) {
     for size in 0..=64 {
         to.client(session(false, vec![raw(&vec![b'A'; size])]));
     }
@@ -151,7 +151,7 @@ fn client_lengths(to: &mut impl Take) {
 }
 
 /// What a byte can count: ids and occurrences of a PID, and the bytes of a length to be learned, each around 255. And answers to ATZ of every size up to 256.
-fn around_255(to: &mut impl Take) {
+pub fn around_255(to: &mut impl Take) {
     for n in (250..=260).chain([300, 400]) {
         let ids: String = (0..n).map(|id| format!("{id:03X}02410D\r")).collect();
         let same = "410D\r".repeat(n);
@@ -174,7 +174,7 @@ fn around_255(to: &mut impl Take) {
 }
 
 /// A call that is cut off at every point, in every way, between two others like it.
-fn cut_off(to: &mut impl Take, framing: bool, whole: Call) {
+pub fn cut_off(to: &mut impl Take, framing: bool, whole: Call) {
     let query = || asked(Start::Pids(vec![0x0C, 0x0D], Some(1)), b"7E806410C1AF80D20\r\r>");
     let mut take = |call: Call| {
         let calls = vec![query(), call, query(), query()];
@@ -194,7 +194,7 @@ fn cut_off(to: &mut impl Take, framing: bool, whole: Call) {
     }
 }
 
-fn failures(to: &mut impl Take) {
+pub fn failures(to: &mut impl Take) {
     let ok = || split(b"OK\r\r>", 3);
     let mut init = vec![piece(b"ATZ\r\r\rELM327 v1.5\r\r>")];
     for _ in 0..5 {
@@ -214,7 +214,7 @@ fn failures(to: &mut impl Take) {
 }
 
 /// Commands to the server: all short lines, all short AT commands.
-fn commands(to: &mut impl Take) {
+pub fn commands(to: &mut impl Take) {
     let mut piece = Vec::new();
     let mut lines = 0;
     let mut take = |start: &[u8], text: &[u8], to: &mut dyn FnMut(ServerCase)| {
@@ -236,7 +236,7 @@ fn commands(to: &mut impl Take) {
 }
 
 /// Every length of a line, of an identity string, of a rejection, of a reply's data and of a list of lines, under all settings.
-fn server_lengths(to: &mut impl Take) {
+pub fn server_lengths(to: &mut impl Take) {
     for size in 0..=128 {
         for by_byte in [false, true] {
             let mut line = vec![b'1'; size];
@@ -296,7 +296,7 @@ pub fn drive() -> Vec<Query> {
 }
 
 /// A script with one more group number in place of another, of every form: each is malformed unless it is in reach and in its shortest form.
-fn forms(to: &mut impl Take) {
+pub fn forms(to: &mut impl Take) {
     let mut numbers: Vec<Vec<u8>> = Vec::new();
     for n in (0..=300).chain(4090..=4100).chain([16_383, 16_384, 2_097_152]) {
         let mut short = Vec::new();
@@ -327,7 +327,7 @@ fn forms(to: &mut impl Take) {
 
 /// Whole bench runs: scripts cut off at every point, every record buffer up to one that is large enough, every length of a piece, numbers of lines and of bytes around
 /// their limits, replies around 4,096 bytes, scripts around 16,384.
-fn runs(to: &mut impl Take) {
+pub fn runs(to: &mut impl Take) {
     let drive = drive();
     let all = script(&drive);
     for repeat in [false, true] {

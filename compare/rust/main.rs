@@ -9,6 +9,7 @@ mod rng;
 mod run;
 mod server;
 mod shrink;
+mod stored;
 mod stream;
 
 use driver::Driver;
@@ -87,10 +88,21 @@ impl Comparison {
     }
 }
 
+/// Writes the list of `replay`, and what it prints, to a folder.
+fn write_stored(folder: &str) {
+    let stored = stored::stored();
+    println!("{}{} bytes", stored.printed, stored.list.len());
+    std::fs::write(format!("{folder}/stdin"), stored.list).expect("the list is written");
+    std::fs::write(format!("{folder}/stdout"), stored.printed).expect("the text is written");
+}
+
 fn main() {
     let words: Vec<String> = std::env::args().skip(1).collect();
     if words.iter().any(|word| word == "bench") {
         return bench::bench();
+    }
+    if let Some(at) = words.iter().position(|word| word == "store") {
+        return write_stored(&words[at + 1]);
     }
     let seed = number(&words, "--seed", 1);
     let calls = number(&words, "--calls", 1_000_000) as usize;

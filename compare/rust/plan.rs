@@ -1,5 +1,6 @@
 //! What the Rust gave in one case, beside the script by which the Rattle session is asked for the same.
 use crate::driver::{Log, Script};
+use crate::server::put_group;
 use std::collections::BTreeMap;
 
 /// Values by PID, in reply order: ECU+1 (0 when unknown) and data.
@@ -20,8 +21,8 @@ pub enum Expected {
     Server { settings: [bool; 4], phase: u8, last: Vec<u8>, line: Vec<u8> },
     /// A finish, and whether the client's session is framed.
     Values { values: Values, framed: bool },
-    /// A client session at rest: framing, repeat and multi-PID support, the last query, and what is known of each PID.
-    Client { framing: bool, repeat: u8, multi: u8, last: Vec<u8>, known: Vec<Known> },
+    /// A client session at rest: framing, repeat and multi-PID support, the last query, and what is known of the PIDs that are shown.
+    Client { framing: bool, repeat: u8, multi: u8, last: Vec<u8>, known: Vec<(u8, Known)> },
     /// The reply to a raw command.
     Reply(Vec<u8>),
     /// A bench run: how it ended, and the parts of its record.
@@ -211,9 +212,10 @@ fn check_entry(
             same("multi-PID support (0 unknown, 1 yes, 2 no)", *multi, log.byte(), |m| m.to_string())?;
             same("under way", 0, log.byte(), |u| u.to_string())?;
             same_bytes("last query", last, log.text())?;
-            for (pid, &(length, count)) in known.iter().enumerate() {
+            for &(pid, (length, count)) in known {
                 same(&format!("length of {pid:02X}"), length, log.number(), |n| n.to_string())?;
                 let ours = log.number();
+                let pid = usize::from(pid);
                 if often[pid] && ours == 256 && !out[pid] {
                     out[pid] = true;
                     tally.left_out += 1;
@@ -237,5 +239,97 @@ fn check_entry(
             }
             same("number of parts", parts.len(), ours.len(), |n| n.to_string())
         }
+    }
+}
+
+/// What stands in a log: numbers of two bytes, the lower first, and texts after their lengths.
+fn put_number(to: &mut Vec<u8>, n: usize) {
+    to.extend_from_slice(&u16::try_from(n).expect("a number of two bytes").to_le_bytes());
+}
+
+fn put_text(to: &mut Vec<u8>, text: &[u8]) {
+    put_number(to, text.len());
+    to.extend_from_slice(text);
+}
+
+fn put_call(to: &mut Vec<u8>, code: u8, count: usize, sent: &[u8]) {
+    to.push(code);
+    put_number(to, count);
+    put_text(to, sent);
+}
+
+/// The Rust's values as records, their PIDs in the order that others have; within a PID they stay in their own order.
+fn put_values(to: &mut Vec<u8>, values: &Values, order: &[u8]) {
+    let mut taken = BTreeMap::new();
+    for pid in order.iter().chain(values.keys().flat_map(|pid| vec![pid; values[pid].len()])) {
+        let next: &mut usize = taken.entry(*pid).or_default();
+        let Some((ecu, data)) = values.get(pid).and_then(|found| found.get(*next)) else { continue };
+        *next += 1;
+        to.push(*pid);
+        put_group(to, usize::from(*ecu));
+        put_group(to, data.len());
+        to.extend_from_slice(data);
+    }
+}
+
+/// The PIDs of values, in their order.
+fn order(bytes: &[u8], at: &mut usize, count: usize) -> Vec<u8> {
+    (0..count).map_while(|_| read_value(bytes, at)).map(|(pid, _)| pid).collect()
+}
+
+impl Plan {
+    /// The log that the Rust's answers give. Document 01 leaves the order of PIDs within an answer free: it is taken from another log, and nothing else is.
+    pub fn log(&self, mut other: Log) -> Vec<u8> {
+        let mut log = Vec::new();
+        for (_, expected) in &self.expected {
+            match expected {
+                Expected::Calls { calls, code, count, sent } => {
+                    assert_eq!(*calls, 1, "the Rust does not tell the bytes that it sent for each of several calls");
+                    other.answer();
+                    put_call(&mut log, *code, *count, sent);
+                }
+                Expected::Server { settings, phase, last, line } => {
+                    other.bytes(5);
+                    (other.text(), other.text());
+                    log.extend(settings.map(u8::from));
+                    log.push(*phase);
+                    put_text(&mut log, last);
+                    put_text(&mut log, line);
+                }
+                Expected::Values { values, .. } => {
+                    let answer = other.answer();
+                    let mut sent = Vec::new();
+                    put_values(&mut sent, values, &order(answer.sent, &mut 0, answer.count));
+                    put_call(&mut log, 64, total(values), &sent);
+                }
+                Expected::Client { framing, repeat, multi, last, known } => {
+                    other.bytes(4);
+                    other.text();
+                    log.extend([u8::from(*framing), *repeat, *multi, 0]);
+                    put_text(&mut log, last);
+                    for (_, (length, count)) in known {
+                        (other.number(), other.number());
+                        put_number(&mut log, *length);
+                        put_number(&mut log, *count);
+                    }
+                }
+                Expected::Reply(reply) => {
+                    other.text();
+                    put_text(&mut log, reply);
+                }
+                Expected::Run { code, parts } => {
+                    let answer = other.answer();
+                    let mut at = 0;
+                    let mut sent = Vec::new();
+                    for part in parts {
+                        let count = number(answer.sent, &mut at).unwrap_or(0);
+                        put_group(&mut sent, total(part));
+                        put_values(&mut sent, part, &order(answer.sent, &mut at, count));
+                    }
+                    put_call(&mut log, *code, 0, &sent);
+                }
+            }
+        }
+        log
     }
 }

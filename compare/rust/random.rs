@@ -341,7 +341,7 @@ fn answer(rng: &mut Rng) -> Answer {
     }
 }
 
-const AT: [&str; 28] = [
+pub const AT: [&str; 28] = [
     "ATZ", "ATE0", "ATE1", "ATL0", "ATL1", "ATS0", "ATS1", "ATH0", "ATH1", "ATRV", "ATSP0", "ATSP6", "ATSPA", "ATST64", "ATAT1", "ATAT2", "ATAT0",
     "ATDP", "ATDPN", "ATDPX", "ATI", "AT@1", "AT", "AT?", "ATZZ", "ATE", "ATE2", "ATIS",
 ];
