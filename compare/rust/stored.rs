@@ -362,11 +362,13 @@ fn random_cases(to: &mut Store, name: &'static str, cases: u64, most: usize, add
 
 pub fn stored() -> Store {
     let mut to = Store::new();
-    to.head("bench cards", 1, 2000);
-    for (_, _, card) in cards() {
-        match card {
-            Card::Client(case) => to.client(case),
-            Card::Server(case) => to.server(case),
+    for (name, star) in [("bench cards with a star", true), ("bench cards without one", false)] {
+        to.head(name, 1, 2000);
+        for (_, _, card) in cards().into_iter().filter(|(_, starred, _)| *starred == star) {
+            match card {
+                Card::Client(case) => to.client(case),
+                Card::Server(case) => to.server(case),
+            }
         }
     }
     to.head("short replies", 3607, 500);
