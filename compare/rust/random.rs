@@ -294,11 +294,14 @@ pub fn client(rng: &mut Rng) -> ClientCase {
                     Start::Init | Start::Command(_) => Vec::new(),
                 };
                 call.start = start;
+                let mut refused: &[u8] = b"";
                 if rng.chance(8) {
-                    let refused = *rng.pick(&[b"?\r\r>" as &[u8], b"?>", b">?", b"\r?\r\r>41"]);
+                    refused = *rng.pick(&[b"?\r\r>" as &[u8], b"?>", b">?", b"\r?\r\r>41"]);
                     call.arrivals = arrivals(rng, refused);
                 }
-                let text = reply(rng, &like, &pids);
+                // What is left of the refusal belongs to the reply after it: together they have at most 4,096 bytes.
+                let mut text = reply(rng, &like, &pids);
+                text.truncate(4096 - refused.len());
                 call.arrivals.extend(arrivals(rng, &text));
             }
         }
