@@ -7,7 +7,7 @@ use std::collections::HashMap;
 use std::fmt::Write;
 use std::io;
 use std::time::Duration;
-use tachtalk_elm327_lib::{ClientConfig, ClientSession, FeatureSupport, ReplyLine};
+use tachtalk_elm327_lib::{ClientConfig, ClientSession, FeatureSupport, ReplyLine, MODE01_PID_DATA_LENGTHS};
 
 #[derive(Clone, PartialEq)]
 pub enum Start {
@@ -44,13 +44,14 @@ pub fn config(framing: bool, repeat: bool) -> ClientConfig {
     ClientConfig { framing, repeat, reset_wait: Duration::ZERO, timeout: Duration::ZERO }
 }
 
-fn outcome<T, L>(result: io::Result<HashMap<u8, L>>, lines: T) -> Outcome
-where
-    T: Fn(&L) -> &[ReplyLine],
-{
-    let Ok(map) = result else { return Outcome::Failed };
+/// The values of an answer.
+pub fn values<L>(map: HashMap<u8, L>, lines: impl Fn(&L) -> &[ReplyLine]) -> Values {
     let value = |line: &ReplyLine| (line.ecu.map_or(0, |ecu| ecu + 1), line.data.to_vec());
-    Outcome::Values(map.iter().map(|(pid, found)| (*pid, lines(found).iter().map(value).collect())).collect())
+    map.iter().map(|(pid, found)| (*pid, lines(found).iter().map(value).collect())).collect()
+}
+
+fn outcome<L>(result: io::Result<HashMap<u8, L>>, lines: impl Fn(&L) -> &[ReplyLine]) -> Outcome {
+    result.map_or(Outcome::Failed, |map| Outcome::Values(values(map, lines)))
 }
 
 fn call(session: &mut ClientSession<Stream>, start: &Start) -> Outcome {
@@ -79,7 +80,7 @@ fn last_query(session: &ClientSession<Stream>, text: &mut String) -> Vec<u8> {
     digits.map(|n| n.parse().expect("a byte")).collect()
 }
 
-fn state(session: &ClientSession<Stream>, text: &mut String) -> Expected {
+fn state(session: &ClientSession<Stream>, pids: &[u8], text: &mut String) -> Expected {
     let server = session.server_state();
     let known = |pid| {
         let length = server.data_length(pid).map_or(256, usize::from);
@@ -91,7 +92,7 @@ fn state(session: &ClientSession<Stream>, text: &mut String) -> Expected {
         repeat: support(server.repeat()),
         multi: support(server.multi_pid()),
         last: last_query(session, text),
-        known: (0..=255).map(known).collect(),
+        known: pids.iter().map(|pid| (*pid, known(*pid))).collect(),
     }
 }
 
@@ -119,7 +120,7 @@ fn seen(plan: &mut Plan, start: &Start, outcome: &Outcome, events: &[Event], bef
     if multi != decided {
         plan.seen.push(if *decided == 1 { "multi-PID support confirmed" } else { "multi-PID support refused" });
     }
-    for ((length, count), (length_after, count_after)) in known.iter().zip(learned) {
+    for ((_, (length, count)), (_, (length_after, count_after))) in known.iter().zip(learned) {
         if length != length_after {
             plan.seen.push("lengths learned");
         }
@@ -151,14 +152,14 @@ fn answer(next: Option<&Event>, sent: u8, end: u8) -> Expected {
     Expected::Calls { calls: 1, code, count: 0, sent }
 }
 
-impl Case for ClientCase {
-    fn plan(&self) -> Plan {
+impl ClientCase {
+    /// A plan that shows what is known of these PIDs.
+    pub fn plan_of(&self, pids: &[u8]) -> Plan {
         let mut plan = Plan::default();
         let stream = Stream::new(Empty::Closed);
         let mut session = ClientSession::new(stream.clone(), config(self.framing, self.repeat));
         let mut text = String::new();
-        let all: Vec<u8> = (0..=255).collect();
-        let mut before = state(&session, &mut text);
+        let mut before = state(&session, pids, &mut text);
         for (n, Call { start, arrivals, failed_write }) in self.calls.iter().enumerate() {
             stream.load(arrivals, *failed_write);
             let outcome = call(&mut session, start);
@@ -168,7 +169,7 @@ impl Case for ClientCase {
                 Outcome::Initialised | Outcome::Reply(_) => 66,
                 Outcome::Values(_) => 67,
             };
-            let after = state(&session, &mut text);
+            let after = state(&session, pids, &mut text);
             seen(&mut plan, start, &outcome, &events, &before, &after);
             before = after.clone();
             started(&mut plan.script, start);
@@ -194,10 +195,38 @@ impl Case for ClientCase {
                     plan.expected.push((n, Expected::Values { values, framed: session.server_state().framing() }));
                 }
             }
-            plan.script.look(kind::STATE, &all);
+            plan.script.look(kind::STATE, pids);
             plan.expected.push((n, after));
         }
         plan
+    }
+
+    /// The PIDs that are queried, and those of which something is learned.
+    pub fn pids_of_interest(&self) -> Vec<u8> {
+        let all: Vec<u8> = (0..=255).collect();
+        let mut interest = [false; 256];
+        for call in &self.calls {
+            match &call.start {
+                Start::Pid(pid, _) => interest[usize::from(*pid)] = true,
+                Start::Pids(pids, _) => pids.iter().for_each(|pid| interest[usize::from(*pid)] = true),
+                Start::Init | Start::Command(_) => {}
+            }
+        }
+        for (_, expected) in &self.plan_of(&all).expected {
+            if let Expected::Client { known, .. } = expected {
+                for (pid, (length, count)) in known {
+                    let table = MODE01_PID_DATA_LENGTHS[usize::from(*pid)].map_or(256, usize::from);
+                    interest[usize::from(*pid)] |= (*length, *count) != (table, 0);
+                }
+            }
+        }
+        all.into_iter().filter(|pid| interest[usize::from(*pid)]).collect()
+    }
+}
+
+impl Case for ClientCase {
+    fn plan(&self) -> Plan {
+        self.plan_of(&(0..=255).collect::<Vec<u8>>())
     }
 
     fn run<'a>(&self, driver: &'a mut Driver, plan: &Plan) -> Log<'a> {

@@ -28,6 +28,18 @@ extern "C" {
         log: *mut u8,
         log_len: usize,
     ) -> usize;
+
+    fn driver_bench(
+        repeat: bool,
+        script: *const u8,
+        script_len: usize,
+        pieces: *const u8,
+        pieces_len: usize,
+        buffer: *mut u8,
+        buffer_len: usize,
+        log: *mut u8,
+        log_len: usize,
+    ) -> usize;
 }
 
 /// The kinds of calls on a server session.
@@ -92,6 +104,7 @@ pub struct Answer<'a> {
 }
 
 /// A log, read from its start.
+#[derive(Clone)]
 pub struct Log<'a> {
     left: &'a [u8],
 }
@@ -106,7 +119,7 @@ impl<'a> Log<'a> {
         usize::from(bytes[0]) + 256 * usize::from(bytes[1])
     }
 
-    fn bytes(&mut self, n: usize) -> &'a [u8] {
+    pub fn bytes(&mut self, n: usize) -> &'a [u8] {
         let (taken, left) = self.left.split_at(n);
         self.left = left;
         taken
@@ -185,5 +198,29 @@ impl Driver {
             )
         };
         Log { left: &self.log[..end] }
+    }
+
+    /// A bench run with a record buffer of so many bytes.
+    pub fn bench(&mut self, repeat: bool, script: &[u8], pieces: &[u8], room: usize) -> Log<'_> {
+        let buffer = &mut self.out[..room];
+        buffer.fill(0xEE);
+        // Safety: as above.
+        let end = unsafe {
+            driver_bench(
+                repeat,
+                script.as_ptr(),
+                script.len(),
+                pieces.as_ptr(),
+                pieces.len(),
+                buffer.as_mut_ptr(),
+                buffer.len(),
+                self.log.as_mut_ptr(),
+                self.log.len(),
+            )
+        };
+        let log = Log { left: &self.log[..end] };
+        let stands = log.clone().answer().sent;
+        assert!(buffer.starts_with(stands) && buffer[stands.len()..].iter().all(|byte| *byte == 0xEE), "past its parts the record keeps what it held");
+        log
     }
 }

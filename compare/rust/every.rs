@@ -1,42 +1,44 @@
 //! Cases that go through every input of a kind: all short texts, all PIDs, every length up to its limit, failures at every point.
 use crate::client::{Call, ClientCase, Start};
-use crate::server::{Answer, Own, ServerCase};
+use crate::run::{script, Query, RunCase, FULL_ROOM};
+use crate::server::{put_group, Answer, Line, Own, ServerCase};
 use crate::stream::Arrival;
 
 /// Takes the cases, one after the other.
 pub trait Take {
     fn client(&mut self, case: ClientCase);
     fn server(&mut self, case: ServerCase);
+    fn run(&mut self, case: RunCase);
 }
 
-fn piece(text: &[u8]) -> Arrival {
+pub fn piece(text: &[u8]) -> Arrival {
     Arrival::Piece(text.to_vec())
 }
 
-fn split(text: &[u8], size: usize) -> Vec<Arrival> {
+pub fn split(text: &[u8], size: usize) -> Vec<Arrival> {
     text.chunks(size).map(piece).collect()
 }
 
-fn call(start: Start, arrivals: Vec<Arrival>) -> Call {
+pub fn call(start: Start, arrivals: Vec<Arrival>) -> Call {
     Call { start, arrivals, failed_write: None }
 }
 
-fn asked(start: Start, reply: &[u8]) -> Call {
+pub fn asked(start: Start, reply: &[u8]) -> Call {
     call(start, split(reply, 128))
 }
 
-fn raw(command: &[u8]) -> Call {
+pub fn raw(command: &[u8]) -> Call {
     asked(Start::Command(command.to_vec()), b"OK\r\r>")
 }
 
 /// A session whose calls come after a raw ATH1 or ATH0.
-fn session(framed: bool, calls: Vec<Call>) -> ClientCase {
+pub fn session(framed: bool, calls: Vec<Call>) -> ClientCase {
     let mut all = vec![raw(if framed { b"ATH1" } else { b"ATH0" })];
     all.extend(calls);
     ClientCase { framing: false, repeat: true, calls: all }
 }
 
-fn reader(pieces: Vec<Vec<u8>>, answers: Vec<Answer>) -> ServerCase {
+pub fn reader(pieces: Vec<Vec<u8>>, answers: Vec<Answer>) -> ServerCase {
     ServerCase { own: Own::usual(), by_byte: false, pieces, answers }
 }
 
@@ -58,7 +60,7 @@ fn texts(bytes: &[u8], most: usize, take: &mut impl FnMut(&[u8])) {
 }
 
 /// Short replies to a query of one PID and to one of two.
-fn short_replies(to: &mut impl Take) {
+pub fn short_replies(to: &mut impl Take) {
     texts(b"014C+ \t\n\r>?\0Gaf", 4, &mut |text| {
         let mut reply = text.to_vec();
         reply.extend_from_slice(b"\r>");
@@ -71,7 +73,7 @@ fn short_replies(to: &mut impl Take) {
 }
 
 /// Every pair of bytes where a reply has a pair of digits, and some of three bytes where it has an id.
-fn digits(to: &mut impl Take) {
+pub fn digits(to: &mut impl Take) {
     for first in 0..128 {
         for second in 0..128 {
             for framed in [false, true] {
@@ -90,7 +92,7 @@ fn digits(to: &mut impl Take) {
 }
 
 /// Every PID, with two lines of each two lengths, and the query once more.
-fn every_pid(to: &mut impl Take) {
+pub fn every_pid(to: &mut impl Take) {
     for pid in 0..=255 {
         for framed in [false, true] {
             for (a, b) in (0..7).flat_map(|a| (0..7).map(move |b| (a, b))) {
@@ -108,7 +110,7 @@ fn every_pid(to: &mut impl Take) {
 }
 
 /// The texts of queries: every PID, every count, every number of PIDs.
-fn queries(to: &mut impl Take) {
+pub fn queries(to: &mut impl Take) {
     let reply = b"410C1AF8\r\r>";
     for n in 0..=255 {
         let counts = [None, Some(n)];
@@ -124,7 +126,7 @@ fn queries(to: &mut impl Take) {
 }
 
 /// Raw commands and replies of every length around the limits, in pieces of several sizes.
-fn client_lengths(to: &mut impl Take) {
+pub fn client_lengths(to: &mut impl Take) {
     for size in 0..=64 {
         to.client(session(false, vec![raw(&vec![b'A'; size])]));
     }
@@ -149,7 +151,7 @@ fn client_lengths(to: &mut impl Take) {
 }
 
 /// What a byte can count: ids and occurrences of a PID, and the bytes of a length to be learned, each around 255. And answers to ATZ of every size up to 256.
-fn around_255(to: &mut impl Take) {
+pub fn around_255(to: &mut impl Take) {
     for n in (250..=260).chain([300, 400]) {
         let ids: String = (0..n).map(|id| format!("{id:03X}02410D\r")).collect();
         let same = "410D\r".repeat(n);
@@ -172,7 +174,7 @@ fn around_255(to: &mut impl Take) {
 }
 
 /// A call that is cut off at every point, in every way, between two others like it.
-fn cut_off(to: &mut impl Take, framing: bool, whole: Call) {
+pub fn cut_off(to: &mut impl Take, framing: bool, whole: Call) {
     let query = || asked(Start::Pids(vec![0x0C, 0x0D], Some(1)), b"7E806410C1AF80D20\r\r>");
     let mut take = |call: Call| {
         let calls = vec![query(), call, query(), query()];
@@ -192,7 +194,7 @@ fn cut_off(to: &mut impl Take, framing: bool, whole: Call) {
     }
 }
 
-fn failures(to: &mut impl Take) {
+pub fn failures(to: &mut impl Take) {
     let ok = || split(b"OK\r\r>", 3);
     let mut init = vec![piece(b"ATZ\r\r\rELM327 v1.5\r\r>")];
     for _ in 0..5 {
@@ -212,7 +214,7 @@ fn failures(to: &mut impl Take) {
 }
 
 /// Commands to the server: all short lines, all short AT commands.
-fn commands(to: &mut impl Take) {
+pub fn commands(to: &mut impl Take) {
     let mut piece = Vec::new();
     let mut lines = 0;
     let mut take = |start: &[u8], text: &[u8], to: &mut dyn FnMut(ServerCase)| {
@@ -234,7 +236,7 @@ fn commands(to: &mut impl Take) {
 }
 
 /// Every length of a line, of an identity string, of a rejection, of a reply's data and of a list of lines, under all settings.
-fn server_lengths(to: &mut impl Take) {
+pub fn server_lengths(to: &mut impl Take) {
     for size in 0..=128 {
         for by_byte in [false, true] {
             let mut line = vec![b'1'; size];
@@ -265,6 +267,115 @@ fn server_lengths(to: &mut impl Take) {
     }
 }
 
+/// A line of a known or unknown ECU.
+pub fn line(ecu: u16, data: &[u8]) -> Line {
+    (ecu.checked_sub(1), data.to_vec())
+}
+
+pub fn query(pids: &[u8], count: Option<u8>, lines: Vec<Line>) -> Query {
+    Query { pids: pids.to_vec(), count, lines }
+}
+
+/// A run with a large record buffer.
+pub fn bench(repeat: bool, queries: &[Query], pieces: &[u8]) -> RunCase {
+    RunCase { repeat, script: script(queries), pieces: pieces.to_vec(), room: FULL_ROOM }
+}
+
+/// Document 01's worked example.
+pub const WORKED: &[u8] = &[0x01, 0x0C, 0x02, 0x01, 0x00, 0x04, 0x41, 0x0C, 0x1A, 0xF8];
+
+/// A drive: several ECUs, an unknown one, repeats, a query without lines before and after a repeat, PIDs outside the table, a line that does not start with 41.
+pub fn drive() -> Vec<Query> {
+    let speed = |value: u8| query(&[0x0C], Some(1), vec![line(0x7E9, &[0x41, 0x0C, 0x1A, value]), line(0x7EA, &[0x41, 0x0C, 0x1B, value])]);
+    let pair = || query(&[0x0C, 0x0D], None, vec![line(0, &[0x41, 0x0C, 0x1A, 0xF8, 0x0D, 0x20])]);
+    let none = || query(&[0x05], Some(0), Vec::new());
+    let learned = |value: u8| query(&[0xE0], None, vec![line(0x7E9, &[0x41, 0xE0, value, 2, 3]), line(0, &[0x41, 0xE0, 4, 5, 6])]);
+    let disagreeing = || query(&[0xE1], None, vec![line(1, &[0x41, 0xE1, 1]), line(0x1000, &[0x41, 0xE1, 2, 3])]);
+    let mixed = || query(&[0xE0, 0xE1, 0x0D, 0x0D], Some(255), vec![line(0, &[0x41, 0xE0, 1, 2, 3, 0x0D, 0x30, 0xE1, 9, 9]), line(0, &[0x7F, 1, 0x12])]);
+    vec![speed(1), speed(2), speed(2), none(), none(), speed(3), pair(), pair(), learned(1), learned(2), disagreeing(), disagreeing(), mixed(), mixed()]
+}
+
+/// A script with one more group number in place of another, of every form: each is malformed unless it is in reach and in its shortest form.
+pub fn forms(to: &mut impl Take) {
+    let mut numbers: Vec<Vec<u8>> = Vec::new();
+    for n in (0..=300).chain(4090..=4100).chain([16_383, 16_384, 2_097_152]) {
+        let mut short = Vec::new();
+        put_group(&mut short, n);
+        let mut long = short.clone();
+        *long.last_mut().expect("a number has a byte") += 128;
+        long.push(0);
+        numbers.push(short);
+        numbers.push(long);
+    }
+    numbers.push(vec![0xFF; 12]);
+    numbers.push([vec![0xFF; 12], vec![1]].concat());
+    numbers.push([vec![0x80; 12], vec![1]].concat());
+    numbers.push([vec![0x82], vec![0x80; 11], vec![0]].concat());
+    for number in numbers {
+        let pids = [&number[..], &[0x0C; 7]].concat();
+        let count = [&[1, 0x0C], &number[..], &[1, 0, 4, 0x41, 0x0C, 0x1A, 0xF8]].concat();
+        let lines = [&[1, 0x0C, 0], &number[..], &[0, 3, 0x41, 0x0D, 0x20].repeat(64)].concat();
+        let exactly = [&[1, 0x0C, 0], &number[..], &[0, 3, 0x41, 0x0D, 0x20].repeat(usize::from(number[0]))].concat();
+        let ecu = [&[1, 0x0C, 0, 1], &number[..], &[4, 0x41, 0x0C, 0x1A, 0xF8]].concat();
+        let size = [&[1, 0x0C, 0, 1, 0], &number[..], &[0x41, 0x0C, 0x1A, 0xF8]].concat();
+        let filled = [&[1, 0xE0, 0, 1, 0], &number[..], &vec![0x41; usize::from(number[0] % 128) + 128 * usize::from(*number.get(1).unwrap_or(&0))]].concat();
+        for script in [pids, count, lines, exactly, ecu, size, filled] {
+            to.run(RunCase { script, ..bench(true, &[], &[]) });
+        }
+    }
+}
+
+/// Whole bench runs: scripts cut off at every point, every record buffer up to one that is large enough, every length of a piece, numbers of lines and of bytes around
+/// their limits, replies around 4,096 bytes, scripts around 16,384.
+pub fn runs(to: &mut impl Take) {
+    let drive = drive();
+    let all = script(&drive);
+    for repeat in [false, true] {
+        for script in [WORKED, &all] {
+            for size in 0..=script.len() {
+                to.run(RunCase { script: script[..size].to_vec(), ..bench(repeat, &[], &[]) });
+            }
+        }
+        for room in 0..=260 {
+            to.run(RunCase { room, ..bench(repeat, &drive, &[]) });
+        }
+        for length in 0..=255 {
+            for times in [1, 7, 200] {
+                to.run(bench(repeat, &drive, &vec![length; times]));
+            }
+        }
+        for count in (0..=255).map(Some).chain([None]) {
+            for few in 1..=6 {
+                let asked = query(&[0x0C, 0x0D, 0x05, 0x0C, 0xE0, 0xE0][..few], count, vec![line(0x7E9, &[0x41, 0x0D, 0x20, 0x0C, 1, 2])]);
+                to.run(bench(repeat, &[asked.clone(), asked], &[3, 0, 1]));
+            }
+        }
+        // The lines of a reply are of an even length each: 5 digits, two for each byte, and CR.
+        for last in 230..=250 {
+            let mut lines = vec![line(0x7E9, &[0x41; 255]); 7];
+            lines.push(line(0x7E9, &vec![0x41; last]));
+            let long = query(&[0x41], None, lines);
+            let short = || query(&[0x0C], None, vec![line(0, &[0x41, 0x0C, 1, 2])]);
+            to.run(bench(repeat, &[short(), short(), long.clone(), short(), long], &[128, 127]));
+        }
+        for size in 0..=64 {
+            let many = query(&[0x0D], None, vec![line(0, &[0x41, 0x0D, size as u8]); size]);
+            to.run(bench(repeat, &[many.clone(), many], &[]));
+        }
+        for size in 0..=255 {
+            let data: Vec<u8> = [0x41, 0xE0].into_iter().chain(0..=255).take(size).collect();
+            let long = query(&[0xE0], None, vec![line(0, &data), line(0x800, &data)]);
+            to.run(bench(repeat, &[long.clone(), long], &[100]));
+        }
+        for size in 16_380..=16_390 {
+            let mut script: Vec<u8> = [0x01, 0x0D, 0x00, 0x00].repeat(4096);
+            script.resize(size, 0);
+            to.run(RunCase { script, ..bench(repeat, &[], &[]) });
+        }
+    }
+    forms(to);
+}
+
 pub fn every(to: &mut impl Take) {
     queries(to);
     client_lengths(to);
@@ -275,4 +386,5 @@ pub fn every(to: &mut impl Take) {
     digits(to);
     every_pid(to);
     short_replies(to);
+    runs(to);
 }

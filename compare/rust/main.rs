@@ -6,8 +6,10 @@ mod every;
 mod plan;
 mod random;
 mod rng;
+mod run;
 mod server;
 mod shrink;
+mod stored;
 mod stream;
 
 use driver::Driver;
@@ -31,6 +33,7 @@ struct Comparison {
     driver: Driver,
     clients: Tally,
     servers: Tally,
+    runs: Tally,
     /// What is compared.
     name: String,
 }
@@ -55,34 +58,51 @@ impl every::Take for Comparison {
     fn server(&mut self, case: server::ServerCase) {
         compare(case, &mut self.driver, &mut self.servers, &self.name);
     }
+
+    fn run(&mut self, case: run::RunCase) {
+        compare(case, &mut self.driver, &mut self.runs, &self.name);
+    }
 }
 
 impl Comparison {
     fn new() -> Self {
-        Comparison { driver: Driver::new(), clients: Tally::default(), servers: Tally::default(), name: String::new() }
+        Comparison { driver: Driver::new(), clients: Tally::default(), servers: Tally::default(), runs: Tally::default(), name: String::new() }
     }
 
     fn calls(&self) -> usize {
-        self.clients.calls + self.servers.calls
+        self.clients.calls + self.servers.calls + self.runs.calls
     }
 
     /// Prints what was compared.
     fn report(&self, what: &str) {
-        for (name, tally) in [("client", &self.clients), ("server", &self.servers)] {
-            println!(
-                "{what}, {name}: {} sessions, {} calls, {} states, {} values; {} counts left out",
-                tally.sessions, tally.calls, tally.states, tally.values, tally.left_out
-            );
+        for (name, tally) in [("client", &self.clients), ("server", &self.servers), ("bench", &self.runs)] {
+            let Tally { sessions, calls, states, queries, values, left_out, .. } = tally;
+            if name == "bench" {
+                println!("{what}, {name}: {sessions} runs, {calls} calls, {queries} queries whose parts stand, {values} values");
+            } else {
+                println!("{what}, {name}: {sessions} sessions, {calls} calls, {states} states, {values} values; {left_out} counts left out");
+            }
             let seen: Vec<String> = tally.seen.iter().map(|(name, times)| format!("{times} {name}")).collect();
             println!("  {}", seen.join(", "));
         }
     }
 }
 
+/// Writes the list of `replay`, and what it prints, to a folder.
+fn write_stored(folder: &str) {
+    let stored = stored::stored();
+    println!("{}{} bytes", stored.printed, stored.list.len());
+    std::fs::write(format!("{folder}/stdin"), stored.list).expect("the list is written");
+    std::fs::write(format!("{folder}/stdout"), stored.printed).expect("the text is written");
+}
+
 fn main() {
     let words: Vec<String> = std::env::args().skip(1).collect();
     if words.iter().any(|word| word == "bench") {
         return bench::bench();
+    }
+    if let Some(at) = words.iter().position(|word| word == "store") {
+        return write_stored(&words[at + 1]);
     }
     let seed = number(&words, "--seed", 1);
     let calls = number(&words, "--calls", 1_000_000) as usize;
@@ -101,6 +121,7 @@ fn main() {
         random.name = format!("session {session} of seed {seed}");
         random.client(random::client(&mut Rng::new(seed, 2 * session)));
         random.server(random::server(&mut Rng::new(seed, 2 * session + 1)));
+        random.run(random::run(&mut Rng::new(!seed, session)));
         session += 1;
     }
     random.report(&format!("seed {seed}"));

@@ -1,9 +1,13 @@
 //! What the Rust gave in one case, beside the script by which the Rattle session is asked for the same.
 use crate::driver::{Log, Script};
+use crate::server::put_group;
 use std::collections::BTreeMap;
 
 /// Values by PID, in reply order: ECU+1 (0 when unknown) and data.
 pub type Values = BTreeMap<u8, Vec<(u16, Vec<u8>)>>;
+
+/// A query's part of a hire record.
+pub type Part = Values;
 
 /// What is known of a PID: its length, 256 when unknown, and its count and 1, 0 when not learned.
 pub type Known = (usize, usize);
@@ -17,10 +21,12 @@ pub enum Expected {
     Server { settings: [bool; 4], phase: u8, last: Vec<u8>, line: Vec<u8> },
     /// A finish, and whether the client's session is framed.
     Values { values: Values, framed: bool },
-    /// A client session at rest: framing, repeat and multi-PID support, the last query, and what is known of each PID.
-    Client { framing: bool, repeat: u8, multi: u8, last: Vec<u8>, known: Vec<Known> },
+    /// A client session at rest: framing, repeat and multi-PID support, the last query, and what is known of the PIDs that are shown.
+    Client { framing: bool, repeat: u8, multi: u8, last: Vec<u8>, known: Vec<(u8, Known)> },
     /// The reply to a raw command.
     Reply(Vec<u8>),
+    /// A bench run: how it ended, and the parts of its record.
+    Run { code: u8, parts: Vec<Part> },
 }
 
 #[derive(Default)]
@@ -38,6 +44,8 @@ pub struct Tally {
     pub sessions: usize,
     pub calls: usize,
     pub states: usize,
+    /// Parts of records.
+    pub queries: usize,
     pub values: usize,
     /// Counts left out, as docs/DIFFERENCES.md says: unframed, of a PID that occurs more than 255 times.
     pub left_out: usize,
@@ -50,6 +58,7 @@ impl Tally {
         self.sessions += other.sessions;
         self.calls += other.calls;
         self.states += other.states;
+        self.queries += other.queries;
         self.values += other.values;
         self.left_out += other.left_out;
         for (name, times) in &other.seen {
@@ -88,20 +97,56 @@ fn number(bytes: &[u8], at: &mut usize) -> Option<usize> {
     }
 }
 
-/// Value records of document 01, by PID.
+/// A value record of document 01: the PID, ECU+1 and the data.
+fn read_value(bytes: &[u8], at: &mut usize) -> Option<(u8, (u16, Vec<u8>))> {
+    let pid = *bytes.get(*at)?;
+    *at += 1;
+    let ecu = u16::try_from(number(bytes, at)?).ok()?;
+    let size = number(bytes, at)?;
+    let data = bytes.get(*at..*at + size)?.to_vec();
+    *at += size;
+    Some((pid, (ecu, data)))
+}
+
+/// Values as far as the bytes reach, by PID.
 fn read_values(bytes: &[u8]) -> Option<Values> {
     let mut values = Values::new();
     let mut at = 0;
     while at < bytes.len() {
-        let pid = bytes[at];
-        at += 1;
-        let ecu = u16::try_from(number(bytes, &mut at)?).ok()?;
-        let size = number(bytes, &mut at)?;
-        let data = bytes.get(at..at + size)?.to_vec();
-        at += size;
-        values.entry(pid).or_default().push((ecu, data));
+        let (pid, value) = read_value(bytes, &mut at)?;
+        values.entry(pid).or_default().push(value);
     }
     Some(values)
+}
+
+/// The parts of a hire record, each with its number of values.
+fn read_parts(bytes: &[u8]) -> Option<Vec<(usize, Part)>> {
+    let mut parts = Vec::new();
+    let mut at = 0;
+    while at < bytes.len() {
+        let count = number(bytes, &mut at)?;
+        let mut part = Part::new();
+        for _ in 0..count {
+            let (pid, value) = read_value(bytes, &mut at)?;
+            part.entry(pid).or_default().push(value);
+        }
+        parts.push((count, part));
+    }
+    Some(parts)
+}
+
+/// Compares values PID by PID, and their number.
+fn same_values(rust: &Values, ours: &Values, count: usize) -> Result<(), String> {
+    for pid in 0..=255 {
+        let none = Vec::new();
+        let theirs = rust.get(&pid).unwrap_or(&none);
+        same(&format!("values of {pid:02X}"), theirs, ours.get(&pid).unwrap_or(&none), |v| format!("{v:02X?}"))?;
+    }
+    same("number of values", total(rust), count, |n| n.to_string())
+}
+
+fn total(values: &Values) -> usize {
+    values.values().map(Vec::len).sum()
 }
 
 impl Plan {
@@ -154,15 +199,11 @@ fn check_entry(
             let answer = log.answer();
             same("finish", 64, answer.code, |code| code.to_string())?;
             let ours = read_values(answer.sent).ok_or("the values are no values")?;
-            let total = values.values().map(Vec::len).sum::<usize>();
-            tally.values += total;
+            tally.values += total(values);
             for pid in 0..=255 {
-                let none = Vec::new();
-                let theirs = values.get(&pid).unwrap_or(&none);
-                same(&format!("values of {pid:02X}"), theirs, ours.get(&pid).unwrap_or(&none), |v| format!("{v:02X?}"))?;
-                often[usize::from(pid)] = !framed && 255 < theirs.len();
+                often[usize::from(pid)] = !framed && values.get(&pid).is_some_and(|found| 255 < found.len());
             }
-            same("number of values", total, answer.count, |n| n.to_string())
+            same_values(values, &ours, answer.count)
         }
         Expected::Client { framing, repeat, multi, last, known } => {
             tally.states += 1;
@@ -171,9 +212,10 @@ fn check_entry(
             same("multi-PID support (0 unknown, 1 yes, 2 no)", *multi, log.byte(), |m| m.to_string())?;
             same("under way", 0, log.byte(), |u| u.to_string())?;
             same_bytes("last query", last, log.text())?;
-            for (pid, &(length, count)) in known.iter().enumerate() {
+            for &(pid, (length, count)) in known {
                 same(&format!("length of {pid:02X}"), length, log.number(), |n| n.to_string())?;
                 let ours = log.number();
+                let pid = usize::from(pid);
                 if often[pid] && ours == 256 && !out[pid] {
                     out[pid] = true;
                     tally.left_out += 1;
@@ -186,5 +228,108 @@ fn check_entry(
             Ok(())
         }
         Expected::Reply(reply) => same_bytes("reply", reply, log.text()),
+        Expected::Run { code, parts } => {
+            let answer = log.answer();
+            same("end of the run (64, or a number)", (*code, 0), (answer.code, answer.count), |pair| format!("{pair:?}"))?;
+            let ours = read_parts(answer.sent).ok_or("the record is no record")?;
+            for (n, (part, (count, our_part))) in parts.iter().zip(&ours).enumerate() {
+                same_values(part, our_part, *count).map_err(|what| format!("query {n}: {what}"))?;
+                tally.queries += 1;
+                tally.values += total(part);
+            }
+            same("number of parts", parts.len(), ours.len(), |n| n.to_string())
+        }
+    }
+}
+
+/// What stands in a log: numbers of two bytes, the lower first, and texts after their lengths.
+fn put_number(to: &mut Vec<u8>, n: usize) {
+    to.extend_from_slice(&u16::try_from(n).expect("a number of two bytes").to_le_bytes());
+}
+
+fn put_text(to: &mut Vec<u8>, text: &[u8]) {
+    put_number(to, text.len());
+    to.extend_from_slice(text);
+}
+
+fn put_call(to: &mut Vec<u8>, code: u8, count: usize, sent: &[u8]) {
+    to.push(code);
+    put_number(to, count);
+    put_text(to, sent);
+}
+
+/// The Rust's values as records, their PIDs in the order that others have; within a PID they stay in their own order.
+fn put_values(to: &mut Vec<u8>, values: &Values, order: &[u8]) {
+    let mut taken = BTreeMap::new();
+    for pid in order.iter().chain(values.keys().flat_map(|pid| vec![pid; values[pid].len()])) {
+        let next: &mut usize = taken.entry(*pid).or_default();
+        let Some((ecu, data)) = values.get(pid).and_then(|found| found.get(*next)) else { continue };
+        *next += 1;
+        to.push(*pid);
+        put_group(to, usize::from(*ecu));
+        put_group(to, data.len());
+        to.extend_from_slice(data);
+    }
+}
+
+/// The PIDs of values, in their order.
+fn order(bytes: &[u8], at: &mut usize, count: usize) -> Vec<u8> {
+    (0..count).map_while(|_| read_value(bytes, at)).map(|(pid, _)| pid).collect()
+}
+
+impl Plan {
+    /// The log that the Rust's answers give. Document 01 leaves the order of PIDs within an answer free: it is taken from another log, and nothing else is.
+    pub fn log(&self, mut other: Log) -> Vec<u8> {
+        let mut log = Vec::new();
+        for (_, expected) in &self.expected {
+            match expected {
+                Expected::Calls { calls, code, count, sent } => {
+                    assert_eq!(*calls, 1, "the Rust does not tell the bytes that it sent for each of several calls");
+                    other.answer();
+                    put_call(&mut log, *code, *count, sent);
+                }
+                Expected::Server { settings, phase, last, line } => {
+                    other.bytes(5);
+                    (other.text(), other.text());
+                    log.extend(settings.map(u8::from));
+                    log.push(*phase);
+                    put_text(&mut log, last);
+                    put_text(&mut log, line);
+                }
+                Expected::Values { values, .. } => {
+                    let answer = other.answer();
+                    let mut sent = Vec::new();
+                    put_values(&mut sent, values, &order(answer.sent, &mut 0, answer.count));
+                    put_call(&mut log, 64, total(values), &sent);
+                }
+                Expected::Client { framing, repeat, multi, last, known } => {
+                    other.bytes(4);
+                    other.text();
+                    log.extend([u8::from(*framing), *repeat, *multi, 0]);
+                    put_text(&mut log, last);
+                    for (_, (length, count)) in known {
+                        (other.number(), other.number());
+                        put_number(&mut log, *length);
+                        put_number(&mut log, *count);
+                    }
+                }
+                Expected::Reply(reply) => {
+                    other.text();
+                    put_text(&mut log, reply);
+                }
+                Expected::Run { code, parts } => {
+                    let answer = other.answer();
+                    let mut at = 0;
+                    let mut sent = Vec::new();
+                    for part in parts {
+                        let count = number(answer.sent, &mut at).unwrap_or(0);
+                        put_group(&mut sent, total(part));
+                        put_values(&mut sent, part, &order(answer.sent, &mut at, count));
+                    }
+                    put_call(&mut log, *code, 0, &sent);
+                }
+            }
+        }
+        log
     }
 }

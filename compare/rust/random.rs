@@ -1,6 +1,7 @@
 //! Random cases: what an ELM327 and its reader say, and damaged copies of it.
 use crate::client::{Call, ClientCase, Start};
 use crate::rng::Rng;
+use crate::run::{script, Query, RunCase, FULL_ROOM};
 use crate::server::{Answer, Line, Own, ServerCase};
 use crate::stream::Arrival;
 use tachtalk_elm327_lib::MODE01_PID_DATA_LENGTHS;
@@ -293,11 +294,14 @@ pub fn client(rng: &mut Rng) -> ClientCase {
                     Start::Init | Start::Command(_) => Vec::new(),
                 };
                 call.start = start;
+                let mut refused: &[u8] = b"";
                 if rng.chance(8) {
-                    let refused = *rng.pick(&[b"?\r\r>" as &[u8], b"?>", b">?", b"\r?\r\r>41"]);
+                    refused = *rng.pick(&[b"?\r\r>" as &[u8], b"?>", b">?", b"\r?\r\r>41"]);
                     call.arrivals = arrivals(rng, refused);
                 }
-                let text = reply(rng, &like, &pids);
+                // What is left of the refusal belongs to the reply after it: together they have at most 4,096 bytes.
+                let mut text = reply(rng, &like, &pids);
+                text.truncate(4096 - refused.len());
                 call.arrivals.extend(arrivals(rng, &text));
             }
         }
@@ -340,7 +344,7 @@ fn answer(rng: &mut Rng) -> Answer {
     }
 }
 
-const AT: [&str; 28] = [
+pub const AT: [&str; 28] = [
     "ATZ", "ATE0", "ATE1", "ATL0", "ATL1", "ATS0", "ATS1", "ATH0", "ATH1", "ATRV", "ATSP0", "ATSP6", "ATSPA", "ATST64", "ATAT1", "ATAT2", "ATAT0",
     "ATDP", "ATDPN", "ATDPX", "ATI", "AT@1", "AT", "AT?", "ATZZ", "ATE", "ATE2", "ATIS",
 ];
@@ -407,4 +411,81 @@ pub fn server(rng: &mut Rng) -> ServerCase {
         pieces: pieces(rng, &text, 200),
         answers: (0..rng.from(0, 3)).map(|_| answer(rng)).collect(),
     }
+}
+
+/// A line of a script: mostly values of the PIDs, a known or an unknown ECU.
+fn script_line(rng: &mut Rng, style: &Style, pids: &[u8]) -> Line {
+    if rng.chance(5) {
+        return line(rng);
+    }
+    let ecu = if rng.chance(35) { None } else { Some(ecu(rng)) };
+    let mut data = data(rng, style, pids);
+    if rng.chance(3) {
+        data.resize(rng.from(0, 255), 0x0D);
+    }
+    data.truncate(255);
+    (ecu, data)
+}
+
+fn script_query(rng: &mut Rng, style: &Style, last: Option<&Query>) -> Query {
+    let (pids, count) = match (last, query(rng)) {
+        (Some(last), _) if rng.chance(45) => (last.pids.clone(), last.count),
+        (_, Start::Pids(pids, count)) => (pids, count),
+        (_, Start::Pid(pid, count)) => (vec![pid], count),
+        _ => (vec![pid(rng)], count(rng)),
+    };
+    let size = match rng.below(40) {
+        0..=4 => 0,
+        5..=20 => 1,
+        21..=37 => rng.from(2, 5),
+        38 => rng.from(6, 64),
+        _ => rng.from(62, 64),
+    };
+    let lines = (0..size).map(|_| script_line(rng, style, &pids)).collect();
+    Query { pids, count, lines }
+}
+
+/// Lengths of pieces: none, short ones, all bytes, and such as mean 128.
+fn lengths(rng: &mut Rng) -> Vec<u8> {
+    let mode = rng.below(5);
+    let size = if rng.chance(50) { rng.below(8) } else { rng.below(400) };
+    let length = |rng: &mut Rng| match mode {
+        1 => 1,
+        2 => rng.from(1, 8) as u8,
+        3 => *rng.pick(&[0, 1, 127, 128, 129, 255]),
+        _ => rng.below(256) as u8,
+    };
+    if mode == 0 {
+        return Vec::new();
+    }
+    (0..size).map(|_| length(rng)).collect()
+}
+
+/// A bench run of some queries; some scripts are damaged or cut off.
+pub fn run(rng: &mut Rng) -> RunCase {
+    let style = style(rng, true);
+    let mut queries: Vec<Query> = Vec::new();
+    for _ in 0..rng.from(0, 12) {
+        let next = script_query(rng, &style, queries.last());
+        queries.push(next);
+    }
+    let mut script = script(&queries);
+    match rng.below(40) {
+        0 => script.truncate(rng.below(script.len() + 1)),
+        1 => {
+            let at = rng.below(script.len() + 1);
+            script.splice(at..at, [rng.below(256) as u8]);
+        }
+        2 if !script.is_empty() => {
+            let at = rng.below(script.len());
+            script[at] = rng.below(256) as u8;
+        }
+        _ => {}
+    }
+    let room = match rng.below(20) {
+        0 => rng.below(20),
+        1..=2 => rng.below(300),
+        _ => FULL_ROOM,
+    };
+    RunCase { repeat: rng.chance(70), script, pieces: lengths(rng), room }
 }

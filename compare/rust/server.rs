@@ -29,7 +29,7 @@ impl Own {
         Own::Device("ELM327".to_string())
     }
 
-    fn identity(&self) -> Identity {
+    pub fn identity(&self) -> Identity {
         match self.clone() {
             Own::Ati(ati) => Identity { ati, ..Identity::default() },
             Own::Device(device_description) => Identity { device_description, ..Identity::default() },
@@ -80,7 +80,7 @@ fn hidden(session: &impl Debug, text: &mut String) -> (Vec<u8>, usize) {
 }
 
 /// A group number of document 01.
-fn put_group(to: &mut Vec<u8>, mut n: usize) {
+pub fn put_group(to: &mut Vec<u8>, mut n: usize) {
     while 128 <= n {
         to.push((n % 128 + 128) as u8);
         n /= 128;

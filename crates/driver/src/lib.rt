@@ -1,8 +1,9 @@
-// Runs scripts of calls on a session and logs what each call answered, so that a program in another language can compare or time them. A script is a list of
+// Runs scripts of calls on a session, and bench runs, and logs what each call answered, so that a program in another language can compare or time them. A script is a list of
 // calls: a kind, the length of the argument in two bytes, the lower first, and the argument. compare/README.md has the kinds and the entries of the log.
 mod client;
 mod server;
 
+use bench::RunAnswer;
 use client_session::ClientSession;
 use server_session::ServerSession;
 ghost use mathlib.Core.Path.{_≡_};
@@ -11,10 +12,12 @@ ghost use lib.ListN.{length, take, getD};
 ghost use Rattle.wire.specs.Put.{Put};
 ghost use Rattle.server_session.specs.Session.{freshSession};
 ghost use Rattle.client_session.specs.Session.{freshClient};
+ghost use Rattle.bench.specs.Run.{runAnswer};
 ghost use Rattle.driver.specs.Log.{numberBytes, textEntry, callEntry, flagByte, loggedOf, loggedAs};
 ghost use Rattle.driver.specs.Script.{argumentLength, rounds};
 ghost use Rattle.driver.specs.Server.{serverAt, serverRun};
 ghost use Rattle.driver.specs.Client.{storedOf, storedAs, clientAt, clientRun};
+ghost use Rattle.driver.specs.Bench.{runCode, benchLogged};
 
 // A session after some calls of a script, and the position in the log after their entries.
 struct ServerTurn {
@@ -127,4 +130,29 @@ pub extern "C" fn driver_client(
         round += 1;
     }
     turn.at
+}
+
+fn run_code(answer: RunAnswer) -> u8
+    ensures { λ r. ⌜ r ≡ runCode (runAnswer answer) ⌝ }
+{
+    match answer {
+        RunAnswer::Complete => 64,
+        RunAnswer::Refused(number) => number,
+    }
+}
+
+// A bench run of a script with the lent piece lengths, its record in the lent buffer. The log has one entry: how the run ended, and the parts of the record that stand.
+#[no_mangle]
+pub extern "C" fn driver_bench(
+    repeat: bool,
+    script: &[u8],
+    pieces: &[u8],
+    buffer: &mut [u8],
+    log: &mut [u8],
+) -> usize
+    ensures { λ r. ⌜ loggedAs r (now (buffer .exit)) (now (log .exit)) ≡ benchLogged repeat (now (script .entry)) (now (pieces .entry)) (now (buffer .entry)) (now (log .entry)) ⌝ }
+{
+    let run = bench::run(script, pieces, repeat, buffer);
+    let answer = run.answer;
+    put_call(log, 0, run_code(answer), 0, buffer, run.written)
 }

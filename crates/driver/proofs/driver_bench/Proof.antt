@@ -1,0 +1,31 @@
+-- `driver::driver_bench` meets its contract.
+use mathlib.Core.Path.{ap, _∙_}
+use borrow.Author.Needs.{needs}
+use Rattle.driver.specs.Log.{loggedOf}
+use Rattle.driver.specs.Bench.{runNoted}
+use Rattle.driver.proofs.LogLaws.{answered-is}
+use Rattle.driver.proofs.driver_bench.Statement.{statement}
+use Rattle.driver.proofs.driver_bench.Tie as tie
+
+run-requires : tie.Need-run-requires
+run-requires c κs = search needs
+
+run-code-requires : tie.Need-run-code-requires
+run-code-requires c κs = search needs
+
+put-call-requires : tie.Need-put-call-requires
+put-call-requires c κs = search needs
+
+same-length : tie.Need-same-length
+same-length c = search needs
+
+same-length-2 : tie.Need-same-length-2
+same-length-2 c = search needs
+
+returns : tie.Need-returns
+returns c = ap loggedOf (answered-is tt 0 (c .before .before .before .before .before .before .before .before .run .result .written) (c .before .before .before .before .run-code .ensures) (c .before .before .put-call .ensures) ∙ ap (runNoted (c .before .before .before .before .before .before .before .before .before .before .before .before .before .before .args .log .now)) (c .before .before .before .before .before .before .before .before .run .ensures))
+
+pub driver-bench-spec : {M : Type 1} → statement M
+driver-bench-spec =
+    tie.close
+    (tie.spec run-requires run-code-requires put-call-requires same-length same-length-2 returns)
