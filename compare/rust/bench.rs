@@ -1,6 +1,8 @@
 //! Times: the same exchanges through both sides, each timed in turn, in one run.
 use crate::client::{config, started, Start};
 use crate::driver::{client, server, Driver, Script};
+use crate::plan::Plan;
+use crate::run::{script, Query, RunCase, FULL_ROOM};
 use crate::server::{line_list, reply_lines, Line, Own};
 use std::hint::black_box;
 use std::io::{self, Read, Write};
@@ -144,6 +146,25 @@ fn server_pair(setup: &[&[u8]], line: &[u8], size: usize, by_byte: bool, lines: 
     }
 }
 
+/// A whole bench run of so many queries, each answered by so many lines with six PIDs or with 0C alone.
+fn run_pair(queries: usize, usual: bool, lines: usize) -> Pair<'static> {
+    let six = [0x0C, 0x0D, 0x05, 0x04, 0x33, 0x0F];
+    let data = if usual { "410C1AF80D200550041133450F44" } else { "410C1AF8" };
+    let data: Vec<u8> = (0..data.len() / 2).map(|i| u8::from_str_radix(&data[2 * i..2 * i + 2], 16).expect("hex")).collect();
+    let query = Query {
+        pids: if usual { six.to_vec() } else { vec![0x0C] },
+        count: None,
+        lines: (0..lines).map(|n| (Some(0x7E8 + n as u16 % 8), data.clone())).collect(),
+    };
+    let case = RunCase { repeat: true, script: script(&vec![query; queries]), pieces: Vec::new(), room: FULL_ROOM };
+    let same = case.clone();
+    let mut driver = Driver::silent();
+    Pair {
+        rust: Box::new(move |n| (0..n).for_each(|_| drop(black_box(case.through_the_rust(&mut Plan::default()))))),
+        rattle: Box::new(move |n| (0..n).for_each(|_| drop(black_box(driver.bench_in(same.repeat, &same.script, &same.pieces, same.room))))),
+    }
+}
+
 /// Lines of so many ECUs, up to so many bytes with the prompt: each line has six PIDs, or 0C alone.
 fn reply(framed: bool, usual: bool, ecus: usize, lines: usize, most: usize) -> Vec<u8> {
     let data = if usual { "410C1AF80D200550041133450F44" } else { "410C1AF8" };
@@ -201,6 +222,9 @@ pub fn bench() {
     print("server, 010C0D05041133 1 byte by byte (bytes), one line", times(server_pair(&[], b"010C0D05041133 1\r", 1, false, &one)));
     print("server, 010C0D05041133 1 in one piece, one line", times(server_pair(&[], b"010C0D05041133 1\r", 64, false, &one)));
     print("server, ATRV in one piece", times(server_pair(&[], b"ATRV\r", 64, false, &[])));
+    print("bench run, one query, one line", times(run_pair(1, false, 1)));
+    print("bench run, 20 queries, two lines of six PIDs each", times(run_pair(20, true, 2)));
+    print("bench run, 10 queries, 64 lines of six PIDs each", times(run_pair(10, true, 64)));
     for framed in [false, true] {
         for size in [64, 128, 256, 512, 1024, 2048, 4096] {
             let text = reply(framed, true, 8, many, size);

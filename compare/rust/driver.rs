@@ -200,12 +200,11 @@ impl Driver {
         Log { left: &self.log[..end] }
     }
 
-    /// A bench run with a record buffer of so many bytes.
-    pub fn bench(&mut self, repeat: bool, script: &[u8], pieces: &[u8], room: usize) -> Log<'_> {
+    /// A bench run whose record goes to the first bytes of a buffer: where its log ends. Nothing is looked at.
+    pub fn bench_in(&mut self, repeat: bool, script: &[u8], pieces: &[u8], room: usize) -> usize {
         let buffer = &mut self.out[..room];
-        buffer.fill(0xEE);
         // Safety: as above.
-        let end = unsafe {
+        unsafe {
             driver_bench(
                 repeat,
                 script.as_ptr(),
@@ -217,9 +216,16 @@ impl Driver {
                 self.log.as_mut_ptr(),
                 self.log.len(),
             )
-        };
+        }
+    }
+
+    /// A bench run with a record buffer of so many bytes.
+    pub fn bench(&mut self, repeat: bool, script: &[u8], pieces: &[u8], room: usize) -> Log<'_> {
+        self.out[..room].fill(0xEE);
+        let end = self.bench_in(repeat, script, pieces, room);
         let log = Log { left: &self.log[..end] };
         let stands = log.clone().answer().sent;
+        let buffer = &self.out[..room];
         assert!(buffer.starts_with(stands) && buffer[stands.len()..].iter().all(|byte| *byte == 0xEE), "past its parts the record keeps what it held");
         log
     }

@@ -232,7 +232,7 @@ fn size(part: &Part) -> usize {
 
 impl RunCase {
     /// How the run ends, and the parts that stand.
-    fn through_the_rust(&self, plan: &mut Plan) -> (u8, Vec<Part>) {
+    pub fn through_the_rust(&self, plan: &mut Plan) -> (u8, Vec<Part>) {
         if 16_384 < self.script.len() {
             return (TOO_LONG, Vec::new());
         }
