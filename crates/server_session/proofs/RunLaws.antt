@@ -7,26 +7,28 @@ use native.Mathlib.Nat.{zero-add, add-zero}
 use native.Mathlib.Numerals.{add-one}
 use native.Mathlib.Omega.{arith}
 use lib.Dec.{eqb}
-use lib.ListN.{length, take, drop, getD, set, length-append, length-take, length-drop, take-append-drop, drop-of-length-le}
+use lib.ListN.{length, take, drop, getD, set, replicate, length-replicate, length-append, length-take, length-drop, take-append-drop, drop-of-length-le}
 use lib.Seq.{sets, take-suc, take-suc-set, getD-drop, drop-drop, drop-cons}
 use borrow.Author.Tests.{eqb-true, eqb-false}
 use Rattle.wire.specs.Answer.{result}
 use Rattle.wire.specs.Put.{Put}
+use Rattle.client_state.specs.Settings.{Settings}
 use Rattle.wire.specs.Text.{any}
-use Rattle.wire.proofs.Cases.{by-test, or-none}
+use Rattle.wire.proofs.Cases.{by-test, from-no, or-none}
 use Rattle.wire.proofs.PutLaws.{put-none, put-then, put-whole, put-length, put-inside}
 use Rattle.server_session.specs.declared.Phase.{Phase}
-use Rattle.server_session.specs.declared.ServerSession.{ServerSession}
 use Rattle.server_session.specs.declared.ByteAnswer.{ByteAnswer}
-use Rattle.server_session.specs.declared.ByteStep.{ByteStep}
+use Rattle.server_session.specs.declared.Flags.{Flags}
+use Rattle.server_session.specs.declared.Did.{Did}
+use Rattle.server_session.specs.declared.Read.{Read}
 use Rattle.server_session.specs.declared.Turn.{Turn}
 use Rattle.server_session.specs.declared.Run.{Run}
-use Rattle.server_session.specs.Session.{session, isReading, Said}
-use Rattle.server_session.specs.Bytes.{withLine, echoes, byteSays, byteAnswer, Heard, bytesSay, ServedBytes, bytesServed, lentBytes}
-use Rattle.server_session.specs.Steps.{Does, goesOn, counted, isSpecial, RunFits, Ran, Joins}
+use Rattle.server_session.specs.Session.{Session, isReading, Said}
+use Rattle.server_session.specs.Bytes.{withLine, echoes, byteSays, byteAnswer, Heard, bytesSay, ServedBytes, lentBytes}
+use Rattle.server_session.specs.Steps.{Does, Serves, Shows, shown, goesOn, counted, isSpecial, RunFits, Ran, Joins}
 use Rattle.server_session.proofs.ByteLaws.{reading, text-short}
 use Rattle.server_session.proofs.StepLaws.{line-size, line-cut}
-use Rattle.server_session.proofs.BytesLaws.{after, on-counted, lastOf, bytes-on, bytes-stop, onward-after, echo-append, echo-less, bytes-some}
+use Rattle.server_session.proofs.BytesLaws.{after, lastOf, bytes-on, bytes-stop, onward-after, echo-append, echo-less, bytes-some}
 
 -- How many bytes a run may have
 
@@ -92,111 +94,131 @@ served-after i n h {e} {out} {o₁} {at} {a} p k =
     let l : at + length (e ++ h .text) ≡ a + length (h .text) = omega (arith, length-append e (h .text), put-whole p k) in
     λ j. record { answer = h .answer; taken = t j; written = l j; next = h .next; out = sym (w .bytes) j }
 
+-- some settings that show as told
+abbrev pub someSettings : Flags → Settings
+someSettings f = record { echo = f .echo; linefeeds = f .linefeeds; spaces = true; headers = true; last = replicate (f .last) 0 }
+
+pub some-shows : (f : Flags) → Shows (someSettings f) f
+some-shows f = record { echo = refl; linefeeds = refl; last = length-replicate (f .last) 0 }
+
 -- A part of a turn takes the loop from one place to another, and what is served in the end stays the same.
-pub record Leads (input : List ℕ) (s : ServerSession) (i at : ℕ) (out : List ℕ) (s₁ : ServerSession) (i₁ at₁ : ℕ) (o : List ℕ) : Type 0 where
+pub record Leads (state : Settings) (input : List ℕ) (t : Turn) (line : List ℕ) (i at : ℕ) (out : List ℕ) (t₁ : Turn) (line₁ : List ℕ) (i₁ at₁ : ℕ) (o : List ℕ) : Type 0 where
   pub there : i₁ ≤ length input
   pub inside : at₁ ≤ length o
   pub same : length o ≡ length out
-  pub says : servedFrom i₁ at₁ (bytesSay (length o - at₁) (session s₁) (drop i₁ input)) o ≡ servedFrom i at (bytesSay (length out - at) (session s) (drop i input)) out
+  pub says : servedFrom i₁ at₁ (bytesSay (length o - at₁) (shown t₁ state line₁) (drop i₁ input)) o ≡ servedFrom i at (bytesSay (length out - at) (shown t state line) (drop i input)) out
 
 -- A turn of the loop: its run
 
-module _ (s : ServerSession) (input out : List ℕ) (i at : ℕ) (r : Run) (l o : List ℕ) (k : length (s .line) ≡ 128)
-    (inside : at ≤ length out) (there : i ≤ length input) (run : Joins (s .turn) (s .state .«echo_enabled») (s .line) input i out at r l o) where
+module _ (t : Turn) (state : Settings) (line input out : List ℕ) (i at : ℕ) (f : Flags) (shows : Shows state f) (r : Run) (l o : List ℕ) (k : length line ≡ 128)
+    (inside : at ≤ length out) (there : i ≤ length input) (run : Joins t (f .echo) line input i out at r l o) where
+  abbrev s : Session
+  s = shown t state line
+
   abbrev count : ℕ
   count = run .to .count
 
-  abbrev ran : Ran (s .line) (min (s .turn .len) 128) input i out at (s .state .«echo_enabled») (run .most) count (r .at) l o
+  abbrev ran : Ran line (min (t .len) 128) input i out at (f .echo) (run .most) count (r .at) l o
   ran = run .to .ran
 
-  abbrev fits : RunFits (s .turn) (s .state .«echo_enabled») (length input - i) (length out - at) (run .most)
+  abbrev fits : RunFits t (f .echo) (length input - i) (length out - at) (run .most)
   fits = run .fits
 
   abbrev text : List ℕ
   text = take count (drop i input)
 
-  abbrev then : ServerSession
-  then = record { state = s .state; line = l; turn = record { phase = s .turn .phase; len = r .len } }
+  abbrev then : Turn
+  then = record { phase = t .phase; len = r .len }
 
   text-long : length text ≡ count
   text-long = omega (arith, length-take count (drop i input), length-drop i input, ran .within, fits .there)
 
-  joins : session then ≡ withLine (session s) (session s .line ++ text) (s .turn .phase)
+  joins : shown then state l ≡ withLine s (s .line ++ text) (t .phase)
   joins =
-      let line : take (r .len) l ≡ take (s .turn .len) (s .line) ++ text =
-      ap (λ n. take n l) (run .to .ends) ∙ ran .joined ∙ ap (λ (x : List ℕ). x ++ text) (line-cut (s .turn .len) (s .line) k) in
-      ap (λ (x : List ℕ). withLine (session s) x (s .turn .phase)) line
+      let joined : take (r .len) l ≡ take (t .len) line ++ text =
+      ap (λ n. take n l) (run .to .ends) ∙ ran .joined ∙ ap (λ (x : List ℕ). x ++ text) (line-cut (t .len) line k) in
+      ap (λ (x : List ℕ). withLine s x (t .phase)) joined
 
   splits : drop i input ≡ text ++ drop (i + count) input
   splits = rw (← drop-drop count i input) (sym (take-append-drop count (drop i input)))
 
-  echo-room : 0 < length text → length (echoes (session s) text) + 8 ≤ length out - at
-  echo-room some =
-      omega (arith, text-long, fits .room (omega (arith, text-long, ran .within)), echo-length (s .state .«echo_enabled») text, echo-most (s .state .«echo_enabled») (length text) (run .most) (omega (arith, text-long, ran .within)))
+  sent : Put out at (echoes s text) (r .at) o
+  sent = rw (shows .echo) (ran .sent)
 
-  echo-fits : length (echoes (session s) text) ≤ length out - at
+  echo-room : 0 < length text → length (echoes s text) + 8 ≤ length out - at
+  echo-room some =
+      rw (shows .echo)
+      (omega (arith, text-long, fits .room (omega (arith, text-long, ran .within)), echo-length (f .echo) text, echo-most (f .echo) (length text) (run .most) (omega (arith, text-long, ran .within))))
+
+  echo-fits : length (echoes s text) ≤ length out - at
   echo-fits =
       by-test (eqb (length text) 0)
-      (λ e. omega (arith, eqb-true (length text) 0 e, echo-less (s .state .«echo_enabled») text))
+      (λ e. omega (arith, eqb-true (length text) 0 e, echo-less (state .echo) text))
       (λ e. let some : (length text ≡ 0 → ⊥) = eqb-false (length text) 0 e in omega (arith, echo-room (omega arith)))
 
-  pub run-turn : Leads input s i at out then (r .next) (r .at) o
+  pub run-turn : Leads state input t line i at out then l (r .next) (r .at) o
   run-turn =
-      let e = echoes (session s) text in
+      let e = echoes s text in
       let w : at + length e ≤ length out = omega (arith, echo-fits) in
-      let room : length o - r .at ≡ length out - at - length e = omega (arith, put-whole (ran .sent) w, put-length (ran .sent)) in
-      let h = bytesSay (length out - at - length e) (withLine (session s) (session s .line ++ text) (s .turn .phase)) (drop (i + count) input) in
-      let says : bytesSay (length out - at) (session s) (drop i input) ≡ after count e h =
-      ap (bytesSay (length out - at) (session s)) splits ∙
-      bytes-some text (drop (i + count) input) (session s) (length out - at) (ran .plain) (λ some. reading (s .turn .phase) (fits .turn (omega (arith, text-long, ran .within))))
-      (omega (arith, text-long, ran .within, fits .line, line-size (s .turn .len) (s .line) k)) echo-room ∙
+      let room : length o - r .at ≡ length out - at - length e = omega (arith, put-whole sent w, put-length sent) in
+      let h = bytesSay (length out - at - length e) (withLine s (s .line ++ text) (t .phase)) (drop (i + count) input) in
+      let says : bytesSay (length out - at) s (drop i input) ≡ after count e h =
+      ap (bytesSay (length out - at) s) splits ∙
+      bytes-some text (drop (i + count) input) s (length out - at) (ran .plain) (λ some. reading (t .phase) (fits .turn (omega (arith, text-long, ran .within))))
+      (omega (arith, text-long, ran .within, fits .line, line-size (t .len) line k)) echo-room ∙
       ap (λ (n : ℕ). after n e h) text-long in
       record {
         there = omega (arith, run .to .next, ran .within, fits .there);
-        inside = omega (arith, put-inside (ran .sent) inside, put-length (ran .sent));
-        same = put-length (ran .sent);
+        inside = omega (arith, put-inside sent inside, put-length sent);
+        same = put-length sent;
         says =
             (λ j. servedFrom (run .to .next j) (r .at) (bytesSay (room j) (joins j) (drop (run .to .next j) input)) o) ∙
-            sym (served-after i count h (ran .sent) w) ∙
+            sym (served-after i count h sent w) ∙
             ap (λ (x : Heard). servedFrom i at x out) (sym says);
       }
 
 -- A turn of the loop: the byte after it
 
-module _ (s : ServerSession) (input out : List ℕ) (i at : ℕ) (r : ByteStep) (o : List ℕ)
-    (inside : at ≤ length out) (here : i < length input) (does : Does (byteSays (length out - at) (session s) (getD input i 0)) out at r o) where
+module _ (t : Turn) (state : Settings) (line input out : List ℕ) (i at : ℕ) (r : Did) (l o : List ℕ)
+    (inside : at ≤ length out) (here : i < length input) (does : Does (byteSays (length out - at) (shown t state line) (getD input i 0)) state l out at r o) where
   abbrev said : Said Phase
-  said = byteSays (length out - at) (session s) (getD input i 0)
+  said = byteSays (length out - at) (shown t state line) (getD input i 0)
 
   fit : at + length (said .text) ≤ length out
-  fit = omega (arith, text-short (length out - at) (session s) (getD input i 0) .1)
+  fit = omega (arith, text-short (length out - at) (shown t state line) (getD input i 0) .1)
 
-  pub byte-turn : {n : ℕ} → n ≡ counted (byteAnswer (r .answer)) → goesOn (byteAnswer (r .answer)) ≡ true → Leads input s i at out (r .session) (i + n) (r .written) o
-  byte-turn {n} c e =
-      let one : n ≡ 1 = c ∙ on-counted (byteAnswer (r .answer)) e in
-      let room : length o - r .written ≡ length out - at - length (said .text) = omega (arith, put-whole (does .text) fit, put-length (does .text)) in
+  pub byte-turn : goesOn (byteAnswer (r .answer)) ≡ true → Leads state input t line i at out (r .turn) l (i + 1) (r .at) o
+  byte-turn e =
+      let room : length o - r .at ≡ length out - at - length (said .text) = omega (arith, put-whole (does .text) fit, put-length (does .text)) in
       let h = bytesSay (length out - at - length (said .text)) (said .next) (drop (i + 1) input) in
-      let says : bytesSay (length out - at) (session s) (drop i input) ≡ after 1 (said .text) h =
-      rw (add-one, drop-cons input i 0 here) (bytes-on (length out - at) (session s) (getD input i 0) (drop (suc i) input) (sym (ap goesOn (does .answer)) ∙ e) ∙ onward-after said _) in
+      let says : bytesSay (length out - at) (shown t state line) (drop i input) ≡ after 1 (said .text) h =
+      rw (add-one, drop-cons input i 0 here) (bytes-on (length out - at) (shown t state line) (getD input i 0) (drop (suc i) input) (sym (ap goesOn (does .answer)) ∙ e) ∙ onward-after said _) in
+      let next : shown (r .turn) state l ≡ said .next = rw (does .plain e) at (does .next) in
       record {
         there = omega arith;
         inside = omega (arith, put-inside (does .text) inside, put-length (does .text));
         same = put-length (does .text);
-        says = rw (says, one, room, does .next) (sym (served-after i 1 h (does .text) fit));
+        says = rw (says, room, next) (sym (served-after i 1 h (does .text) fit));
       }
 
   pub byte-stop : {n : ℕ} → n ≡ counted (byteAnswer (r .answer)) → goesOn (byteAnswer (r .answer)) ≡ false →
-      bytesServed (record { answer = r .answer; taken = i + n; written = r .written; session = r .session }) o ≡
-      servedFrom i at (bytesSay (length out - at) (session s) (drop i input)) out
+      Serves (servedFrom i at (bytesSay (length out - at) (shown t state line) (drop i input)) out) state l (record { did = r; taken = i + n }) o
   byte-stop {n} c e =
-      let says : bytesSay (length out - at) (session s) (drop i input) ≡ lastOf said =
-      rw (drop-cons input i 0 here) (bytes-stop (length out - at) (session s) (getD input i 0) (drop (suc i) input) (sym (ap goesOn (does .answer)) ∙ e)) in
+      let says : bytesSay (length out - at) (shown t state line) (drop i input) ≡ lastOf said =
+      rw (drop-cons input i 0 here) (bytes-stop (length out - at) (shown t state line) (getD input i 0) (drop (suc i) input) (sym (ap goesOn (does .answer)) ∙ e)) in
       let count : n ≡ counted (said .answer) = c ∙ ap counted (does .answer) in
-      let end : r .written ≡ at + length (said .text) = put-whole (does .text) fit in
-      rw says (λ j. record { answer = does .answer j; taken = i + count j; written = end j; next = does .next j; out = does .text .bytes j })
+      let end : r .at ≡ at + length (said .text) = put-whole (does .text) fit in
+      record {
+        served = rw says (λ j. record { answer = does .answer j; taken = i + count j; written = end j; next = does .next j; out = does .text .bytes j });
+        again = does .again;
+      }
 
 -- no byte is left
-pub bytes-end : (room : ℕ) (s : ServerSession) (input out : List ℕ) (i at : ℕ) (a : ByteAnswer) → length input ≤ i → byteAnswer a ≡ result (s .turn .phase) →
-    bytesServed (record { answer = a; taken = i; written = at; session = s }) out ≡ servedFrom i at (bytesSay room (session s) (drop i input)) out
+pub bytes-end : (room : ℕ) (t : Turn) (state : Settings) (line input out : List ℕ) (i at : ℕ) (a : ByteAnswer) → length input ≤ i → byteAnswer a ≡ result (t .phase) →
+    Serves (servedFrom i at (bytesSay room (shown t state line) (drop i input)) out) state line (record { did = record { answer = a; turn = t; at = at; repeat = false }; taken = i }) out
 unfolding bytesSay
-bytes-end room s input out i at a h e = rw (drop-of-length-le input h, e) (simp add-zero)
+bytes-end room t state line input out i at a h e = record { served = rw (drop-of-length-le input h, e) (simp add-zero); again = λ e. from-no cc }
+
+-- the same of what is served
+pub serves-same : {x y : ServedBytes} {state : Settings} {line out : List ℕ} {r : Read} → x ≡ y → Serves x state line r out → Serves y state line r out
+serves-same e q = record { served = q .served ∙ e; again = q .again }

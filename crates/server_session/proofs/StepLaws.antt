@@ -1,37 +1,33 @@
 -- Laws of the code's steps: each does what is said, from a position of the out buffer on.
 use mathlib.Core.Path.{_≡_, refl, sym, ap, _∙_}
-use mathlib.Core.Bool.{Bool, true, false}
+use mathlib.Core.Bool.{Bool, true, false, cond}
 use mathlib.Core.List.{List, [], _∷_, _++_}
 use Prim.Native.Nat.{ℕ, _+_, _≤_, _<_, min}
 use native.Mathlib.Numerals.{add-one}
 use native.Mathlib.Omega.{arith}
 use lib.ListN.{length, take, set, length-take}
 use lib.Seq.{take-suc-set}
-use Rattle.wire.specs.Answer.{refused}
+use Rattle.wire.specs.Answer.{result, refused}
 use Rattle.wire.specs.Put.{Put}
-use Rattle.client_state.specs.Settings.{settings}
+use Rattle.wire.specs.Text.{ascii}
+use Rattle.client_state.specs.Settings.{Settings, settings}
+use Rattle.reply.specs.Shape.{chipReply}
+use Rattle.wire.proofs.Cases.{from-no}
 use Rattle.wire.proofs.PutLaws.{put-none, put-then, put-whole}
+use Rattle.wire.proofs.ListLaws.{take-cut}
 use Rattle.server_session.specs.declared.Phase.{Phase}
 use Rattle.server_session.specs.declared.Phase.the-variants as phase
+use Rattle.server_session.specs.declared.Turn.{Turn}
+use Rattle.server_session.specs.declared.Flags.{Flags}
+use Rattle.server_session.specs.declared.Did.{Did}
+use Rattle.server_session.specs.declared.Read.{Read}
 use Rattle.server_session.specs.declared.ServerSession.{ServerSession}
 use Rattle.server_session.specs.declared.ByteAnswer.{ByteAnswer}
 use Rattle.server_session.specs.declared.ByteAnswer.the-variants as answer
-use Rattle.server_session.specs.declared.ByteStep.{ByteStep}
-use Rattle.server_session.specs.Session.{Session, session, Said, saying, lent}
-use Rattle.server_session.specs.Bytes.{canonical, byteNumber, withLine, echoed, commandPhase, emptyLine, lineEnd, byteTaken, byteSays, byteAnswer, byteServed}
-use Rattle.server_session.specs.Steps.{Does, numbered, goesOn, Turned}
-use Rattle.wire.proofs.ListLaws.{take-cut}
-use Rattle.server_session.proofs.ByteLaws.{number-none, numbered-on, numbered-off, says-refused, line-empty, line-command, afterText, taken-cr, taken-lf, taken-plain}
-
--- a text is put, and a step goes on after it
-pub does-after : {d : Said Phase} {e out o₁ left : List ℕ} {at a : ℕ} {r : ByteStep} → Put out at e a o₁ → Does d o₁ a r left → Does (afterText e d) out at r left
-does-after p q = record { answer = q .answer; next = q .next; text = put-then p (q .text) }
-
--- a step from the front of the buffer on, whose text fits
-pub does-lent : {d : Said Phase} {out left : List ℕ} {r : ByteStep} → length (d .text) ≤ length out → Does d out 0 r left → byteServed r left ≡ lent d out
-does-lent {d} {out} {left} {r} h q =
-    let w : r .written ≡ length (d .text) = omega (arith, put-whole (q .text) (omega arith)) in
-    λ i. record { answer = q .answer i; written = w i; next = q .next i; out = q .text .bytes i }
+use Rattle.server_session.specs.Session.{Session, session, Said, lent}
+use Rattle.server_session.specs.Bytes.{canonical, byteNumber, withLine, echoed, commandPhase, emptyLine, lineEnd, byteSays, byteAnswer, byteServed, ServedBytes, bytesServed}
+use Rattle.server_session.specs.Steps.{Does, Serves, Shows, shown, left, numbered, goesOn}
+use Rattle.server_session.proofs.ByteLaws.{number-none, numbered-on, numbered-off, says-taken, says-refused, empty-none, empty-last, line-empty, line-command, afterText, taken-cr, taken-lf, taken-plain}
 
 -- as many bytes of a line count as it has
 pub line-size : (n : ℕ) (line : List ℕ) → length line ≡ 128 → length (take n line) ≡ min n 128
@@ -40,59 +36,106 @@ line-size n line k = omega (arith, length-take n line)
 pub line-cut : (n : ℕ) (line : List ℕ) → length line ≡ 128 → take (min n 128) line ≡ take n line
 line-cut n line k = rw (← line-size n line k) (take-cut n line)
 
--- a byte's number is found first: it is taken where there is none, and else nothing is done
-module _ {room free : ℕ} (self : ServerSession) (b : ℕ) (a : ByteAnswer) {t : Bool}
-    (e : room ≡ free) (q : byteAnswer a ≡ numbered (byteNumber room (session self) b)) (g : t ≡ goesOn (byteAnswer a)) where
-  pub let-in : t ≡ true → byteNumber free (session self) b ≡ 0
-  let-in h = rw (← e) (numbered-on _ (ap goesOn (sym q) ∙ sym g ∙ h))
+-- a text is put, and a step goes on after it
+pub does-after : {d : Said Phase} {state : Settings} {line e out o₁ left : List ℕ} {at a : ℕ} {r : Did} → Put out at e a o₁ → Does d state line o₁ a r left → Does (afterText e d) state line out at r left
+does-after p q = record { answer = q .answer; next = q .next; text = put-then p (q .text); plain = q .plain; again = q .again }
 
-  pub does-refuse : t ≡ false → (out : List ℕ) (at : ℕ) → Does (byteSays free (session self) b) out at (record { answer = a; written = at; session = self }) out
-  does-refuse h out at =
-      let z = numbered-off (byteNumber room (session self) b) (ap goesOn (sym q) ∙ sym g ∙ h) in
-      let n : byteAnswer a ≡ refused (byteNumber room (session self) b) = q ∙ rw z in
-      rw (← e, says-refused room (session self) b z) (record { answer = n; next = refl; text = put-none out at })
+-- the end of an empty line
+module _ (s : Session) (line : List ℕ) (f : Flags) (h : Shows (s .state) f) (out : List ℕ) (at : ℕ) where
+  pub empty-unknown : {o : List ℕ} {end : ℕ} → f .last ≡ 0 → Put out at (chipReply (f .linefeeds) (ascii "?" ∷ [])) end o →
+      Does (emptyLine s [] (s .state .last)) (s .state) line out at (record { answer = answer.Taken; turn = record { phase = phase.Reading; len = 0 }; at = end; repeat = false }) o
+  empty-unknown z p =
+      let ending = ap (λ (b : Bool). chipReply b (ascii "?" ∷ [])) (h .linefeeds) in
+      rw (empty-none s [] (s .state .last) (h .last ∙ z)) (record { answer = refl; next = refl; text = rw ending p; plain = λ _. refl; again = λ e. from-no cc })
 
--- a step that leaves the session in another phase
-pub does-turn : {self : ServerSession} {p : Phase} {n end : ℕ} {r : ByteStep} (s : Session) (l : List ℕ) {text out left : List ℕ} {at : ℕ} → Turned self p n end r →
-    settings (self .state) ≡ s .state → take n (self .line) ≡ l → Put out at text end left → Does (saying p (withLine s l p) text) out at r left
-does-turn {p = p} s l t e q w =
-    record {
-      answer = t .answer;
-      next = ap session (t .next) ∙ (λ i. record { state = e i; line = q i; phase = p });
-      text = rw (t .written) w;
-    }
-
--- an empty line goes by the settings alone
-pub empty-same : (s : Session) (l : List ℕ) (p : Phase) (e last : List ℕ) → emptyLine (withLine s l p) e last ≡ emptyLine s e last
-empty-same s l p e [] = refl
-empty-same s l p e (c ∷ last) = refl
+  pub empty-repeat : (f .last ≡ 0 → ⊥) →
+      Does (emptyLine s [] (s .state .last)) (s .state) line out at (record { answer = answer.ObdCommand; turn = record { phase = phase.ObdCommand; len = f .last }; at = at; repeat = true }) out
+  empty-repeat z = rw (empty-last s [] (s .state .last) (λ e. z (sym (h .last) ∙ e))) (record { answer = refl; next = refl; text = put-none out at; plain = λ e. from-no cc; again = λ _. sym (h .last) })
 
 -- the end of a line whose command was made in place
-module _ (self : ServerSession) (k : length (self .line) ≡ 128) (line : List ℕ) (n : ℕ) (made : take n line ≡ canonical (take (min (self .turn .len) 128) (self .line))) where
-  command : take n line ≡ canonical (session self .line)
-  command = made ∙ ap canonical (line-cut (self .turn .len) (self .line) k)
+module _ (s : Session) (line₀ : List ℕ) (len : ℕ) (q : s .line ≡ take len line₀) (k : length line₀ ≡ 128) (line : List ℕ) (n : ℕ) (made : take n line ≡ canonical (take (min len 128) line₀)) where
+  command : take n line ≡ canonical (s .line)
+  command = made ∙ ap canonical (line-cut len line₀ k ∙ sym q)
 
-  pub end-empty : n ≡ 0 → lineEnd (session self) [] (canonical (session self .line)) ≡ emptyLine (session self) [] (session self .state .last)
-  end-empty z = let none : take n line ≡ [] = rw z in line-empty (session self) [] (canonical (session self .line)) (ap length (sym command ∙ none))
+  pub end-empty : n ≡ 0 → lineEnd s [] (canonical (s .line)) ≡ emptyLine s [] (s .state .last)
+  end-empty z = let none : take n line ≡ [] = rw z in line-empty s [] (canonical (s .line)) (ap length (sym command ∙ none))
 
-  pub end-command : length line ≡ 128 → (n ≡ 0 → ⊥) → lineEnd (session self) [] (canonical (session self .line)) ≡ saying (commandPhase (take n line)) (withLine (session self) (take n line) (commandPhase (take n line))) []
-  end-command j some = ap (lineEnd (session self) []) (sym command) ∙ line-command (session self) [] (take n line) (λ e. some (omega (arith, length-take n line)))
+  pub end-command : length line ≡ 128 → (n ≡ 0 → ⊥) → (out : List ℕ) (at : ℕ) (a : ByteAnswer) (p : Phase) → byteAnswer a ≡ result p → p ≡ commandPhase (take n line) →
+      Does (lineEnd s [] (canonical (s .line))) (s .state) line out at (record { answer = a; turn = record { phase = p; len = n }; at = at; repeat = false }) out
+  end-command j some out at a p e c =
+      let says = ap (lineEnd s []) (sym command) ∙ line-command s [] (take n line) (λ e. some (omega (arith, length-take n line))) in
+      rw (says, ← c) (record { answer = e; next = refl; text = put-none out at; plain = λ _. refl; again = λ e. from-no cc })
 
--- a byte that gets no number, its echo written
-module _ (self : ServerSession) (b : ℕ) {out o₁ : List ℕ} {at end : ℕ} (p : Put out at (echoed (session self) b) end o₁) where
-  pub take-cr : {r : ByteStep} {left : List ℕ} → b ≡ 13 → Does (lineEnd (session self) [] (canonical (session self .line))) o₁ end r left → Does (byteTaken (session self) b) out at r left
-  take-cr e d = rw (taken-cr (session self) b e) (does-after p d)
+-- a byte's number is found first: nothing is done where there is one
+module _ (t : Turn) (state : Settings) (line : List ℕ) (b : ℕ) {room free : ℕ} (a : ByteAnswer) {g : Bool}
+    (e : room ≡ free) (q : byteAnswer a ≡ numbered (byteNumber room (shown t state line) b)) (on : g ≡ goesOn (byteAnswer a)) where
+  abbrev s : Session
+  s = shown t state line
 
-  pub take-lf : b ≡ 10 → Does (byteTaken (session self) b) out at (record { answer = answer.Taken; written = end; session = self }) o₁
-  take-lf e = rw (taken-lf (session self) b e) (record { answer = refl; next = refl; text = p })
+  pub does-refuse : g ≡ false → (out : List ℕ) (at : ℕ) → Does (byteSays free s b) state line out at (record { answer = a; turn = t; at = at; repeat = false }) out
+  does-refuse h out at =
+      let z = numbered-off (byteNumber room s b) (ap goesOn (sym q) ∙ sym on ∙ h) in
+      let n : byteAnswer a ≡ refused (byteNumber room s b) = q ∙ rw z in
+      rw (← e, says-refused room s b z) (record { answer = n; next = refl; text = put-none out at; plain = λ _. refl; again = λ e. from-no cc })
 
-  module _ (room : ℕ) (none : byteNumber room (session self) b ≡ 0) (no-cr : b ≡ 13 → ⊥) (no-lf : b ≡ 10 → ⊥) (k : length (self .line) ≡ 128) where
-    pub take-fits : self .turn .len < 128
-    take-fits = omega (arith, number-none room (session self) b none .short no-cr no-lf, length-take (self .turn .len) (self .line))
+  -- and where there is none, it is taken, its echo written
+  module _ (h : g ≡ true) where
+    zero : byteNumber room s b ≡ 0
+    zero = numbered-on _ (ap goesOn (sym q) ∙ sym on ∙ h)
 
-    pub take-plain : Does (byteTaken (session self) b) out at
-        (record { answer = answer.Taken; written = end; session = record { state = self .state; line = set (self .line) (self .turn .len) b; turn = record { phase = self .turn .phase; len = self .turn .len + 1 } } }) o₁
-    take-plain =
-        let joined : take (self .turn .len + 1) (set (self .line) (self .turn .len) b) ≡ take (self .turn .len) (self .line) ++ (b ∷ []) = rw add-one (take-suc-set (self .line) (self .turn .len) b (omega (arith, take-fits))) in
-        rw (taken-plain (session self) b no-cr no-lf)
-        (record { answer = refl; next = λ i. withLine (session self) (joined i) (number-none room (session self) b none .turn i); text = p })
+    none : byteNumber free s b ≡ 0
+    none = rw (← e) zero
+
+    taken : byteAnswer a ≡ result phase.Reading
+    taken = q ∙ rw zero
+
+    pub take-fits : (b ≡ 13 → ⊥) → (b ≡ 10 → ⊥) → length line ≡ 128 → t .len < 128
+    take-fits no-cr no-lf k = omega (arith, number-none free s b none .short no-cr no-lf, length-take (t .len) line)
+
+    module _ (f : Flags) (shows : Shows state f) {out o₁ : List ℕ} {at end : ℕ} (put : Put out at (cond (f .echo) (b ∷ []) []) end o₁) where
+      echo : Put out at (echoed s b) end o₁
+      echo = rw (shows .echo) put
+
+      pub take-cr : {r : Did} {line₁ left : List ℕ} → b ≡ 13 → Does (lineEnd s [] (canonical (s .line))) state line₁ o₁ end r left → Does (byteSays free s b) state line₁ out at r left
+      take-cr c d = rw (says-taken free s b none, taken-cr s b c) (does-after echo d)
+
+      pub take-lf : b ≡ 10 → Does (byteSays free s b) state line out at (record { answer = a; turn = t; at = end; repeat = false }) o₁
+      take-lf c = rw (says-taken free s b none, taken-lf s b c) (record { answer = taken; next = refl; text = echo; plain = λ _. refl; again = λ e. from-no cc })
+
+      pub take-plain : (b ≡ 13 → ⊥) → (b ≡ 10 → ⊥) → length line ≡ 128 →
+          Does (byteSays free s b) state (set line (t .len) b) out at (record { answer = a; turn = record { phase = phase.Reading; len = t .len + 1 }; at = end; repeat = false }) o₁
+      take-plain no-cr no-lf k =
+          let joined : take (t .len + 1) (set line (t .len) b) ≡ take (t .len) line ++ (b ∷ []) = rw add-one (take-suc-set line (t .len) b (omega (arith, take-fits no-cr no-lf k))) in
+          rw (says-taken free s b none, taken-plain s b no-cr no-lf)
+          (record { answer = taken; next = λ i. withLine s (joined i) phase.Reading; text = echo; plain = λ _. refl; again = λ e. from-no cc })
+
+-- The session that a byte leaves: the last command goes into its line where it is repeated.
+
+pub self-shows : (self : ServerSession) → length (self .state .«last_obd_command») ≡ 128 →
+    Shows (settings (self .state)) (record { echo = self .state .«echo_enabled»; linefeeds = self .state .«linefeeds_enabled»; last = min (self .state .«last_len») 128 })
+self-shows self k = record { echo = refl; linefeeds = refl; last = line-size (self .state .«last_len») (self .state .«last_obd_command») k }
+
+module _ (self : ServerSession) (d : Did) (line : List ℕ) (again : d .repeat ≡ true → d .turn .len ≡ length (settings (self .state) .last)) (next : ServerSession) where
+  abbrev pub turned : ServerSession
+  turned = record { state = next .state; line = next .line; turn = d .turn }
+
+  pub left-last : {t : Turn} → d .repeat ≡ true → next ≡ record { state = self .state; line = self .state .«last_obd_command»; turn = t } → session turned ≡ left d (settings (self .state)) line
+  left-last e q =
+      let all : take (d .turn .len) (self .state .«last_obd_command») ≡ settings (self .state) .last = rw (again e) (take-cut (self .state .«last_len») (self .state .«last_obd_command»)) in
+      ap (λ (x : ServerSession). session (record { state = x .state; line = x .line; turn = d .turn })) q ∙
+      rw e (λ i. record { state = settings (self .state); line = all i; phase = d .turn .phase })
+
+  pub left-line : {t : Turn} → d .repeat ≡ false → next ≡ record { state = self .state; line = line; turn = t } → session turned ≡ left d (settings (self .state)) line
+  left-line e q = ap (λ (x : ServerSession). session (record { state = x .state; line = x .line; turn = d .turn })) q ∙ rw e
+
+-- a byte from the front of the buffer on, whose text fits
+pub does-lent : {d : Said Phase} {state : Settings} {line out o : List ℕ} {r : Did} (s : ServerSession) → length (d .text) ≤ length out → Does d state line out 0 r o → session s ≡ left r state line →
+    byteServed (record { answer = r .answer; written = r .at; session = s }) o ≡ lent d out
+does-lent {d} {r = r} s h q e =
+    let w : r .at ≡ length (d .text) = omega (arith, put-whole (q .text) (omega arith)) in
+    let n = e ∙ q .next in
+    λ i. record { answer = q .answer i; written = w i; next = n i; out = q .text .bytes i }
+
+pub serves-lent : {x : ServedBytes} {state : Settings} {line o : List ℕ} {r : Read} (s : ServerSession) → Serves x state line r o → session s ≡ left (r .did) state line →
+    bytesServed (record { answer = r .did .answer; taken = r .taken; written = r .did .at; session = s }) o ≡ x
+serves-lent {o = o} {r = r} s q e = (λ i. record { answer = byteAnswer (r .did .answer); taken = r .taken; written = r .did .at; next = e i; out = o }) ∙ q .served

@@ -13,23 +13,14 @@ use Rattle.reply.specs.Shape.{chipReply}
 use Rattle.server_session.specs.declared.Phase.{Phase}
 use Rattle.server_session.specs.declared.Phase.the-variants as phase
 use Rattle.server_session.specs.declared.Turn.{Turn}
-use Rattle.server_session.specs.declared.ServerSession.{ServerSession}
-use Rattle.server_session.specs.declared.ByteStep.{ByteStep}
+use Rattle.server_session.specs.declared.Flags.{Flags}
+use Rattle.server_session.specs.declared.Did.{Did}
+use Rattle.server_session.specs.declared.Read.{Read}
 use Rattle.server_session.specs.declared.Run.{Run}
 use Rattle.server_session.specs.declared.Wrote.{Wrote}
-use Rattle.server_session.specs.Session.{Session, session, isReading, Said, refusing, Served}
-use Rattle.server_session.specs.Bytes.{byteAnswer}
+use Rattle.server_session.specs.Session.{Session, isReading, Said, refusing, Served}
+use Rattle.server_session.specs.Bytes.{byteAnswer, ServedBytes}
 use Rattle.server_session.specs.Replies.{serverAnswer, answered}
-
--- A step that writes from a position of the out buffer on does what is said.
-pub record Does (d : Said Phase) (out : List ℕ) (at : ℕ) (r : ByteStep) (left : List ℕ) : Type 0 where
-  pub answer : byteAnswer (r .answer) ≡ d .answer
-  pub next : session (r .session) ≡ d .next
-  pub text : Put out at (d .text) (r .written) left
-
--- the answer that a number alone gives
-abbrev pub numbered : ℕ → Answer Phase
-numbered n = cond (eqb n 0) (result phase.Reading) (refused n)
 
 -- more bytes are looked at after this answer
 abbrev pub goesOn : Answer Phase → Bool
@@ -37,6 +28,37 @@ goesOn (result phase.Reading) = true
 goesOn (result phase.AtCommand) = false
 goesOn (result phase.ObdCommand) = false
 goesOn (refused n) = false
+
+-- the session of a turn, some settings and a line
+abbrev pub shown : Turn → Settings → List ℕ → Session
+shown t state line = record { state = state; line = take (t .len) line; phase = t .phase }
+
+-- What reading goes by of the settings.
+pub record Shows (state : Settings) (f : Flags) : Type 0 where
+  pub echo : state .echo ≡ f .echo
+  pub linefeeds : state .linefeeds ≡ f .linefeeds
+  pub last : length (state .last) ≡ f .last
+
+-- the session that a byte leaves
+abbrev pub left : Did → Settings → List ℕ → Session
+left d state line = record { state = state; line = cond (d .repeat) (state .last) (take (d .turn .len) line); phase = d .turn .phase }
+
+-- A byte that writes from a position of the out buffer on does what is said. Where the last command is repeated it is the line, and no more bytes are looked at.
+pub record Does (d : Said Phase) (state : Settings) (line out : List ℕ) (at : ℕ) (r : Did) (out₁ : List ℕ) : Type 0 where
+  pub answer : byteAnswer (r .answer) ≡ d .answer
+  pub next : left r state line ≡ d .next
+  pub text : Put out at (d .text) (r .at) out₁
+  pub plain : goesOn (byteAnswer (r .answer)) ≡ true → r .repeat ≡ false
+  pub again : r .repeat ≡ true → r .turn .len ≡ length (state .last)
+
+-- Several bytes serve what is said.
+pub record Serves (x : ServedBytes) (state : Settings) (line : List ℕ) (r : Read) (out : List ℕ) : Type 0 where
+  pub served : record { answer = byteAnswer (r .did .answer); taken = r .taken; written = r .did .at; next = left (r .did) state line; out = out } ≡ x
+  pub again : r .did .repeat ≡ true → r .did .turn .len ≡ length (state .last)
+
+-- the answer that a number alone gives
+abbrev pub numbered : ℕ → Answer Phase
+numbered n = cond (eqb n 0) (result phase.Reading) (refused n)
 
 -- how many bytes were taken, by the answer to one
 abbrev pub counted : Answer Phase → ℕ
@@ -46,12 +68,6 @@ counted (refused n) = 0
 -- a byte that does not just join the line: 80 or more, CR or LF
 unfoldable pub isSpecial : ℕ → Bool
 isSpecial b = leb 128 b || (eqb b 13 || eqb b 10)
-
--- The session in a phase, its line the first len bytes; the answer is the phase.
-pub record Turned (s : ServerSession) (p : Phase) (len end : ℕ) (r : ByteStep) : Type 0 where
-  pub answer : byteAnswer (r .answer) ≡ result p
-  pub written : r .written ≡ end
-  pub next : r .session ≡ record { state = s .state; line = s .line; turn = record { phase = p; len = len } }
 
 -- As many bytes, if they are not special, join the line with no number, and leave room for one more.
 pub record RunFits (t : Turn) (echo : Bool) (left free most : ℕ) : Type 0 where
@@ -73,6 +89,7 @@ pub record RanTo (line : List ℕ) (len : ℕ) (input : List ℕ) (i : ℕ) (out
   pub ends : r .len ≡ len + count
   pub next : r .next ≡ i + count
   pub ran : Ran line len input i out at echo most count (r .at) line₁ out₁
+  pub size : length line₁ ≡ 128
 
 -- A run that fits.
 pub record Joins (t : Turn) (echo : Bool) (line input : List ℕ) (i : ℕ) (out : List ℕ) (at : ℕ) (r : Run) (line₁ out₁ : List ℕ) : Type 0 where
@@ -95,8 +112,8 @@ abbrev pub rejected : Session → List ℕ → Said (Unit {0})
 rejected s text = answered (s .state) (chipReply (s .state .linefeeds) (text ∷ []))
 
 -- a session by its phase and the settings that a reply goes by
-abbrev pub shown : Phase → Bool → Bool → Bool → Bool → List ℕ → List ℕ → Session
-shown p echo linefeeds spaces headers last line = record {
+abbrev pub replying : Phase → Bool → Bool → Bool → Bool → List ℕ → List ℕ → Session
+replying p echo linefeeds spaces headers last line = record {
   state = record { echo = echo; linefeeds = linefeeds; spaces = spaces; headers = headers; last = last };
   line = line;
   phase = p;

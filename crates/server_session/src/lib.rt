@@ -12,9 +12,9 @@ ghost use lib.ListN.{length, take};
 ghost use Rattle.wire.specs.Answer.{result};
 ghost use Rattle.wire.specs.Put.{Put};
 ghost use Rattle.client_state.specs.Settings.{Settings};
-ghost use Rattle.server_session.specs.Session.{session, freshSession, isReading, lent};
+ghost use Rattle.server_session.specs.Session.{Session, session, freshSession, isReading, lent};
 ghost use Rattle.server_session.specs.Bytes.{canonical, byteNumber, commandPhase, emptyLine, lineEnd, byteTaken, byteSays, byteAnswer, byteServed, bytesSay, bytesServed, lentBytes};
-ghost use Rattle.server_session.specs.Steps.{Does, numbered, goesOn, counted, isSpecial, Turned, RunFits, RanTo, Joins};
+ghost use Rattle.server_session.specs.Steps.{Does, numbered, goesOn, counted, isSpecial, Shows, shown, Serves, RunFits, RanTo, Joins};
 
 // Who speaks next.
 pub enum Phase {
@@ -92,6 +92,27 @@ pub struct ReplyStep {
     // How many bytes of out are to be sent.
     pub written: usize,
     pub session: ServerSession,
+}
+
+// What reading goes by of the settings: echo, linefeeds, and how many bytes the last command has, 0 where there is none.
+struct Flags {
+    echo: bool,
+    linefeeds: bool,
+    last: usize,
+}
+
+// What a byte did: the answer, the turn then, the position in out after what is sent, and whether the last command is to be put into the line.
+struct Did {
+    answer: ByteAnswer,
+    turn: Turn,
+    at: usize,
+    repeat: bool,
+}
+
+// What several bytes did: the last one that was looked at, and how many were taken.
+struct Read {
+    did: Did,
+    taken: usize,
 }
 
 // A run of bytes that joined the line: where it ends in the line, in the input, and in out with what was sent back.
@@ -320,6 +341,157 @@ fn read_run(
     join_run(line, len, input, i, out, at, echo, most)
 }
 
+fn read_flags(echo: bool, linefeeds: bool, size: usize) -> Flags
+    ensures { λ r. ⌜ r ≡ record { echo = echo; linefeeds = linefeeds; last = min size 128 } ⌝ }
+{
+    Flags {
+        echo,
+        linefeeds,
+        last: wire::at_most(size, 128),
+    }
+}
+
+// The end of an empty line: the last command is handed out, or `?` is written when there is none.
+fn end_empty(flags: Flags, out: &mut [u8], at: usize) -> Did
+    ensures { λ r. ⌜ ((s : Session) (line : List ℕ) → Shows (s .state) flags → Does (emptyLine s [] (s .state .last)) (s .state) line (now (out .entry)) at r (now (out .exit))) ⌝ }
+{
+    if flags.last == 0 {
+        let end = reply::put_text_reply(out, at, b"?", flags.linefeeds);
+        let turn = Turn {
+            phase: Phase::Reading,
+            len: 0,
+        };
+        return Did {
+            answer: ByteAnswer::Taken,
+            turn,
+            at: end,
+            repeat: false,
+        };
+    }
+    let turn = Turn {
+        phase: Phase::ObdCommand,
+        len: flags.last,
+    };
+    Did {
+        answer: ByteAnswer::ObdCommand,
+        turn,
+        at,
+        repeat: true,
+    }
+}
+
+// The end of a line: its command is handed out.
+fn end_line(line: &mut [u8; 128], len: usize, flags: Flags, out: &mut [u8], at: usize) -> Did
+    requires { ⌜ length (now line) ≡ 128 ⌝ }
+    ensures { λ r. ⌜ ((s : Session) → s .line ≡ take len (now (line .entry)) → Shows (s .state) flags →
+        Does (lineEnd s [] (canonical (s .line))) (s .state) (now (line .exit)) (now (out .entry)) at r (now (out .exit))) ⌝ }
+    ensures { λ r. ⌜ length (now (line .exit)) ≡ 128 ⌝ }
+{
+    let n = make_canonical(line, wire::at_most(len, 128));
+    if n == 0 {
+        return end_empty(flags, out, at);
+    }
+    let phase = command_phase(line, n);
+    let turn = Turn { phase, len: n };
+    Did {
+        answer: phase_answer(phase),
+        turn,
+        at,
+        repeat: false,
+    }
+}
+
+// A byte, with what it sends written from a position on.
+fn take_byte(
+    line: &mut [u8; 128],
+    turn: Turn,
+    flags: Flags,
+    b: u8,
+    out: &mut [u8],
+    at: usize,
+) -> Did
+    requires { ⌜ length (now line) ≡ 128 ⌝ }
+    ensures { λ r. ⌜ ((state : Settings) → Shows state flags →
+        Does (byteSays (length (now (out .entry)) - at) (shown turn state (now (line .entry))) b) state (now (line .exit)) (now (out .entry)) at r (now (out .exit))) ⌝ }
+    ensures { λ r. ⌜ length (now (line .exit)) ≡ 128 ⌝ }
+{
+    let answer = refusal(turn, b, room_at(out.len(), at));
+    if !goes_on(answer) {
+        return Did {
+            answer,
+            turn,
+            at,
+            repeat: false,
+        };
+    }
+    let end = put_echo(out, at, flags.echo, b);
+    if b == b'\r' {
+        return end_line(line, turn.len, flags, out, end);
+    }
+    if b == b'\n' {
+        return Did {
+            answer,
+            turn,
+            at: end,
+            repeat: false,
+        };
+    }
+    let len = turn.len;
+    line[len] = b;
+    let turn = Turn {
+        phase: Phase::Reading,
+        len: len + 1,
+    };
+    Did {
+        answer,
+        turn,
+        at: end,
+        repeat: false,
+    }
+}
+
+// Bytes one after the other, up to the one that hands a command out, or to the one that gets a number. A run of bytes that just join the line is taken without
+// a call for each.
+fn take_bytes(line: &mut [u8; 128], turn: Turn, flags: Flags, input: &[u8], out: &mut [u8]) -> Read
+    requires { ⌜ length (now line) ≡ 128 ⌝ }
+    ensures { λ r. ⌜ ((state : Settings) → Shows state flags →
+        Serves (lentBytes (bytesSay (length (now (out .entry))) (shown turn state (now (line .entry))) (now (input .entry))) (now (out .entry))) state (now (line .exit)) r (now (out .exit))) ⌝ }
+    ensures { λ r. ⌜ length (now (line .exit)) ≡ 128 ⌝ }
+{
+    let mut turn = turn;
+    let mut i: usize = 0;
+    let mut at: usize = 0;
+    loop {
+        let ran = read_run(line, turn, flags.echo, input, i, out, at);
+        turn.len = ran.len;
+        if input.len() <= ran.next {
+            let phase = turn.phase;
+            let did = Did {
+                answer: phase_answer(phase),
+                turn,
+                at: ran.at,
+                repeat: false,
+            };
+            return Read {
+                did,
+                taken: ran.next,
+            };
+        }
+        i = ran.next;
+        let did = take_byte(line, turn, flags, input[i], out, ran.at);
+        let answer = did.answer;
+        if !goes_on(answer) {
+            return Read {
+                did,
+                taken: i + counts(answer),
+            };
+        }
+        turn = did.turn;
+        at = did.at;
+        i += 1;
+    }
+}
+
 impl ServerSession {
     // A session with fresh settings, that waits for a line.
     pub fn new() -> ServerSession
@@ -346,131 +518,55 @@ impl ServerSession {
         128
     }
 
-    // The session in a phase, its line the first len bytes.
-    fn turned(mut self, phase: Phase, len: usize, written: usize) -> ByteStep
-        ensures { λ r. ⌜ Turned self phase len written r ⌝ }
-    {
-        let turn = Turn { phase, len };
-        self.turn = turn;
-        ByteStep {
-            answer: phase_answer(phase),
-            written,
-            session: self,
-        }
-    }
-
-    // The end of an empty line: the last command is handed out, or `?` is written when there is none.
-    fn end_empty(mut self, out: &mut [u8], at: usize) -> ByteStep
-        ensures { λ r. ⌜ Does (emptyLine (session self) [] (session self .state .last)) (now (out .entry)) at r (now (out .exit)) ⌝ }
-    {
-        let size = wire::at_most(self.state.last_len, 128);
-        if size == 0 {
-            let end = reply::put_text_reply(out, at, b"?", self.state.linefeeds_enabled);
-            return self.turned(Phase::Reading, 0, end);
-        }
-        let last = self.state.last_obd_command;
-        self.line = last;
-        self.turned(Phase::ObdCommand, size, at)
-    }
-
-    // The end of a line: its command is handed out.
-    fn end_line(mut self, out: &mut [u8], at: usize) -> ByteStep
-        ensures { λ r. ⌜ Does (lineEnd (session self) [] (canonical (session self .line))) (now (out .entry)) at r (now (out .exit)) ⌝ }
-    {
-        let size = wire::at_most(self.turn.len, 128);
-        let n = make_canonical(&mut self.line, size);
-        if n == 0 {
-            return self.end_empty(out, at);
-        }
-        let phase = command_phase(&self.line, n);
-        self.turned(phase, n, at)
-    }
-
-    // A byte that gets no number.
-    fn take(mut self, b: u8, out: &mut [u8], at: usize) -> ByteStep
-        requires { ⌜ byteNumber (length (now out) - at) (session self) b ≡ 0 ⌝ }
-        ensures { λ r. ⌜ Does (byteTaken (session self) b) (now (out .entry)) at r (now (out .exit)) ⌝ }
-    {
-        let end = put_echo(out, at, self.state.echo_enabled, b);
-        if b == b'\r' {
-            return self.end_line(out, end);
-        }
-        if b == b'\n' {
-            return ByteStep {
-                answer: ByteAnswer::Taken,
-                written: end,
-                session: self,
-            };
-        }
-        let len = self.turn.len;
-        self.line[len] = b;
-        self.turn.len = len + 1;
-        ByteStep {
-            answer: ByteAnswer::Taken,
-            written: end,
-            session: self,
-        }
-    }
-
-    // A byte, with what it sends written from a position on.
-    fn byte_at(self, b: u8, out: &mut [u8], at: usize) -> ByteStep
-        ensures { λ r. ⌜ Does (byteSays (length (now (out .entry)) - at) (session self) b) (now (out .entry)) at r (now (out .exit)) ⌝ }
-    {
-        let answer = refusal(self.turn, b, room_at(out.len(), at));
-        if goes_on(answer) {
-            return self.take(b, out, at);
-        }
-        ByteStep {
-            answer,
-            written: at,
-            session: self,
-        }
-    }
-
     // One byte from the reader.
-    pub fn byte(self, b: u8, out: &mut [u8]) -> ByteStep
+    pub fn byte(mut self, b: u8, out: &mut [u8]) -> ByteStep
         ensures { λ r. ⌜ byteServed r (now (out .exit)) ≡ lent (byteSays (length (now (out .entry))) (session self) b) (now (out .entry)) ⌝ }
     {
-        self.byte_at(b, out, 0)
+        let turn = self.turn;
+        let flags = read_flags(
+            self.state.echo_enabled,
+            self.state.linefeeds_enabled,
+            self.state.last_len,
+        );
+        let did = take_byte(&mut self.line, turn, flags, b, out, 0);
+        if did.repeat {
+            let last = self.state.last_obd_command;
+            self.line = last;
+        }
+        let turn = did.turn;
+        self.turn = turn;
+        let answer = did.answer;
+        ByteStep {
+            answer,
+            written: did.at,
+            session: self,
+        }
     }
 
-    // Bytes from the reader, one after the other: it stops after the one that hands a command out, or before the one that gets a number. A run of bytes that
-    // just join the line is taken without a call for each.
+    // Bytes from the reader, one after the other: it stops after the one that hands a command out, or before the one that gets a number.
     pub fn bytes(mut self, input: &[u8], out: &mut [u8]) -> BytesStep
         ensures { λ r. ⌜ bytesServed r (now (out .exit)) ≡ lentBytes (bytesSay (length (now (out .entry))) (session self) (now (input .entry))) (now (out .entry)) ⌝ }
     {
-        let mut i: usize = 0;
-        let mut at: usize = 0;
-        loop {
-            let turn = self.turn;
-            let echo = self.state.echo_enabled;
-            let ran = read_run(&mut self.line, turn, echo, input, i, out, at);
-            self.turn.len = ran.len;
-            i = ran.next;
-            at = ran.at;
-            if input.len() <= i {
-                let phase = turn.phase;
-                return BytesStep {
-                    answer: phase_answer(phase),
-                    taken: i,
-                    written: at,
-                    session: self,
-                };
-            }
-            let step = self.byte_at(input[i], out, at);
-            let answer = step.answer;
-            self = step.session;
-            at = step.written;
-            i = i + counts(answer);
-            if goes_on(answer) {
-                continue;
-            }
-            return BytesStep {
-                answer,
-                taken: i,
-                written: at,
-                session: self,
-            };
+        let turn = self.turn;
+        let flags = read_flags(
+            self.state.echo_enabled,
+            self.state.linefeeds_enabled,
+            self.state.last_len,
+        );
+        let read = take_bytes(&mut self.line, turn, flags, input, out);
+        let did = read.did;
+        if did.repeat {
+            let last = self.state.last_obd_command;
+            self.line = last;
+        }
+        let turn = did.turn;
+        self.turn = turn;
+        let answer = did.answer;
+        BytesStep {
+            answer,
+            taken: read.taken,
+            written: did.at,
+            session: self,
         }
     }
 }

@@ -18,7 +18,7 @@ ghost use Rattle.reply.specs.Shape.{chipReply};
 ghost use Rattle.at_command.specs.Dialect.{atKind, kindSettings};
 ghost use Rattle.server_session.specs.Session.{Session, session, lent};
 ghost use Rattle.server_session.specs.Replies.{isAt, isObd, serverAnswer, answerSays, atAnswered, replySays, rejectSays, replyServed};
-ghost use Rattle.server_session.specs.Steps.{isSent, unlessRefused, rejected, shown, wroteServed};
+ghost use Rattle.server_session.specs.Steps.{isSent, unlessRefused, rejected, replying, wroteServed};
 
 // Whether an AT command is handed out.
 fn is_at(phase: Phase) -> bool
@@ -117,7 +117,7 @@ fn write_lines(
     out: &mut [u8],
 ) -> Wrote
     ensures { λ r. ⌜ ((echo : Bool) (last line : List ℕ) →
-        let s = shown (turn .phase) echo linefeeds spaces headers last line in
+        let s = replying (turn .phase) echo linefeeds spaces headers last line in
         wroteServed s (now (list .entry)) r (now (out .exit)) ≡ lent (replySays (length (now (out .entry))) s (now (list .entry))) (now (out .entry))) ⌝ }
 {
     let phase = turn.phase;

@@ -2,7 +2,7 @@
 use mathlib.Core.Path.{sym, _∙_}
 use borrow.Author.Tests.{not-true, not-false}
 use borrow.Author.Needs.{needs}
-use Rattle.server_session.specs.Steps.{shown}
+use Rattle.server_session.specs.Steps.{replying}
 use Rattle.server_session.specs.Replies.{replySays}
 use Rattle.server_session.proofs.ReplyLaws.{reply-malformed, reply-small, reply-lines}
 use Rattle.server_session.proofs.replies.write_lines.Statement.{statement}
@@ -31,19 +31,19 @@ same-length : tie.Need-same-length
 same-length c = search needs
 
 returns-2 : tie.Need-returns-2
-returns-2 c = λ echo last line. reply-malformed (shown (c .before .before .before .before .before .before .before .before .before .before .args .turn .phase) echo (c .before .before .before .before .before .before .before .before .before .before .args .linefeeds) (c .before .before .before .before .before .before .before .before .before .before .args .spaces) (c .before .before .before .before .before .before .before .before .before .before .args .headers) last line) (c .before .before .before .before .before .before .before .before .before .before .args .list .now) (c .before .before .before .before .before .before .before .before .before .before .args .out .now) _ (sym (c .before .before .before .before .before .before .before .is-obd .ensures) ∙ not-false _ (c .before .before .before .before .before .before .if1 .left)) (rw (c .enum-told .given .1) at (c .before .before .before .before .write-reply .ensures))
+returns-2 c = λ echo last line. reply-malformed (replying (c .before .before .before .before .before .before .before .before .before .before .args .turn .phase) echo (c .before .before .before .before .before .before .before .before .before .before .args .linefeeds) (c .before .before .before .before .before .before .before .before .before .before .args .spaces) (c .before .before .before .before .before .before .before .before .before .before .args .headers) last line) (c .before .before .before .before .before .before .before .before .before .before .args .list .now) (c .before .before .before .before .before .before .before .before .before .before .args .out .now) _ (sym (c .before .before .before .before .before .before .before .is-obd .ensures) ∙ not-false _ (c .before .before .before .before .before .before .if1 .left)) (rw (c .enum-told .given .1) at (c .before .before .before .before .write-reply .ensures))
 
 same-length-2 : tie.Need-same-length-2
 same-length-2 c = search needs
 
 returns-3 : tie.Need-returns-3
-returns-3 c = λ echo last line. reply-small (shown (c .before .before .before .before .before .before .before .before .before .before .args .turn .phase) echo (c .before .before .before .before .before .before .before .before .before .before .args .linefeeds) (c .before .before .before .before .before .before .before .before .before .before .args .spaces) (c .before .before .before .before .before .before .before .before .before .before .args .headers) last line) (c .before .before .before .before .before .before .before .before .before .before .args .list .now) (c .before .before .before .before .before .before .before .before .before .before .args .out .now) _ (sym (c .before .before .before .before .before .before .before .is-obd .ensures) ∙ not-false _ (c .before .before .before .before .before .before .if1 .left)) (rw (c .enum-told2 .given .1) at (c .before .before .before .before .write-reply .ensures))
+returns-3 c = λ echo last line. reply-small (replying (c .before .before .before .before .before .before .before .before .before .before .args .turn .phase) echo (c .before .before .before .before .before .before .before .before .before .before .args .linefeeds) (c .before .before .before .before .before .before .before .before .before .before .args .spaces) (c .before .before .before .before .before .before .before .before .before .before .args .headers) last line) (c .before .before .before .before .before .before .before .before .before .before .args .list .now) (c .before .before .before .before .before .before .before .before .before .before .args .out .now) _ (sym (c .before .before .before .before .before .before .before .is-obd .ensures) ∙ not-false _ (c .before .before .before .before .before .before .if1 .left)) (rw (c .enum-told2 .given .1) at (c .before .before .before .before .write-reply .ensures))
 
 same-length-3 : tie.Need-same-length-3
 same-length-3 c = search needs
 
 returns-4 : tie.Need-returns-4
-returns-4 c = λ echo last line. reply-lines (shown (c .before .before .before .before .before .before .before .before .before .before .before .args .turn .phase) echo (c .before .before .before .before .before .before .before .before .before .before .before .args .linefeeds) (c .before .before .before .before .before .before .before .before .before .before .before .args .spaces) (c .before .before .before .before .before .before .before .before .before .before .before .args .headers) last line) (c .before .before .before .before .before .before .before .before .before .before .before .args .list .now) (c .before .before .before .before .before .before .before .before .before .before .before .args .out .now) _ (sym (c .before .before .before .before .before .before .before .before .is-obd .ensures) ∙ not-false _ (c .before .before .before .before .before .before .before .if1 .left)) _ (rw (c .before .answer .given .1) at (c .before .before .before .before .before .write-reply .ensures))
+returns-4 c = λ echo last line. reply-lines (replying (c .before .before .before .before .before .before .before .before .before .before .before .args .turn .phase) echo (c .before .before .before .before .before .before .before .before .before .before .before .args .linefeeds) (c .before .before .before .before .before .before .before .before .before .before .before .args .spaces) (c .before .before .before .before .before .before .before .before .before .before .before .args .headers) last line) (c .before .before .before .before .before .before .before .before .before .before .before .args .list .now) (c .before .before .before .before .before .before .before .before .before .before .before .args .out .now) _ (sym (c .before .before .before .before .before .before .before .before .is-obd .ensures) ∙ not-false _ (c .before .before .before .before .before .before .before .if1 .left)) _ (rw (c .before .answer .given .1) at (c .before .before .before .before .before .write-reply .ensures))
 
 pub write-lines-spec : {M : Type 1} → statement M
 write-lines-spec =
