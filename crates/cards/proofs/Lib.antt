@@ -1,1 +1,3 @@
 pub mod CardsHold
+pub mod NumbersHold
+pub mod TextsHold

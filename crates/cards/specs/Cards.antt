@@ -5,7 +5,7 @@ use mathlib.Core.Path.{_≡_}
 use Prim.Native.Nat.{ℕ}
 use Prim.Native.String.{String}
 use Rattle.wire.specs.Text.{ascii}
-use Rattle.client_state.specs.Settings.{Settings}
+use Rattle.client_state.specs.Settings.{Settings, fresh}
 use Rattle.line_list.specs.Lines.{Line, line, linesBytes}
 use Rattle.value.specs.Values.{valuesBytes}
 use Rattle.pid.specs.Lengths.{mode01Lengths}
@@ -41,8 +41,8 @@ values framing t = valuesBytes (valuesOf mode01Lengths (replyLines framing (oneL
 abbrev replies : Settings → Line → List ℕ
 replies s l = replySays 64 (record { state = s; line = ascii "010D"; phase = ObdCommand }) (linesBytes (l ∷ [])) .text
 
-abbrev set : Bool → Bool → Bool → Settings
-set linefeeds spaces headers = record { echo = true; linefeeds = linefeeds; spaces = spaces; headers = headers; last = [] }
+abbrev set : Bool → Bool → Bool → Bool → Settings
+set echo linefeeds spaces headers = record { echo = echo; linefeeds = linefeeds; spaces = spaces; headers = headers; last = [] }
 
 -- what a fresh server sends for some bytes, and what it then answers to an AT command
 abbrev heard : String → Heard
@@ -61,9 +61,9 @@ cards =
     card 4 (values true "A12") (0x31 ∷ 0x00 ∷ 0x03 ∷ 0x41 ∷ 0x31 ∷ 0x32 ∷ []) ∷
     card 5 (values false "41 0C 1A F8 0D 20") (0x0C ∷ 0 ∷ 4 ∷ 0x41 ∷ 0x0C ∷ 0x1A ∷ 0xF8 ∷ 0x0D ∷ 0 ∷ 3 ∷ 0x41 ∷ 0x0D ∷ 0x20 ∷ []) ∷
     card 6 (lines false "+41") (0 ∷ 1 ∷ 0x04 ∷ []) ∷
-    card 7 (replies (set true true false) (line 0 (0x41 ∷ 0x0D ∷ 0x20 ∷ []))) (ascii "41 0D 20\r\n\r\n>") ∷
-    card 8 (replies (set false false true) (line 0 (0x41 ∷ 0x0D ∷ 0x20 ∷ []))) (ascii "7E803410D20\r\r>") ∷
-    card 9 (replies (set true true true) (line 0 [])) (ascii "7E8 00 \r\n\r\n>") ∷
+    card 7 (replies fresh (line 0 (0x41 ∷ 0x0D ∷ 0x20 ∷ []))) (ascii "41 0D 20\r\n\r\n>") ∷
+    card 8 (replies (set false false false true) (line 0 (0x41 ∷ 0x0D ∷ 0x20 ∷ []))) (ascii "7E803410D20\r\r>") ∷
+    card 9 (replies (set true true true true) (line 0 [])) (ascii "7E8 00 \r\n\r\n>") ∷
     card 10 (heard "\r" .text) (ascii "\r?\r\n\r\n>") ∷
     card 11 (queryPidsSays 80 (freshClient true true) (0x0C ∷ 0x0D ∷ []) 2 .text) (ascii "010C0D 1\r") ∷
     card 12 (heard "ATL0\r" .text ++ atAnswer "ATL0\r") (ascii "ATL0\rOK\r\r>") ∷

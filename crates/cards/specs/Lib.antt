@@ -1,1 +1,4 @@
 pub mod Cards
+pub mod Example
+pub mod Numbers
+pub mod Texts
