@@ -341,6 +341,7 @@ fn read_run(
     join_run(line, len, input, i, out, at, echo, most)
 }
 
+// The last command has 128 bytes at most, whatever size says.
 fn read_flags(echo: bool, linefeeds: bool, size: usize) -> Flags
     ensures { λ r. ⌜ r ≡ record { echo = echo; linefeeds = linefeeds; last = min size 128 } ⌝ }
 {
