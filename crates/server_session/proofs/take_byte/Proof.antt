@@ -1,3 +1,4 @@
+-- `server_session::take_byte` meets its contract.
 use mathlib.Core.List.{List}
 use mathlib.Core.Bool.{true}
 use mathlib.Core.Path.{refl, _≡_}
@@ -6,7 +7,6 @@ use native.Mathlib.Omega.{arith}
 use lib.ListN.{take, length-set}
 use borrow.Author.Tests.{not-true, not-false}
 use borrow.Author.Needs.{needs}
--- `server_session::take_byte` meets its contract.
 use Rattle.client_state.specs.Settings.{Settings}
 use Rattle.server_session.specs.Steps.{shown, numbered}
 use Rattle.server_session.specs.Bytes.{byteNumber, byteAnswer}
