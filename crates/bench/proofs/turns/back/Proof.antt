@@ -6,9 +6,9 @@ use Rattle.bench.proofs.TurnLaws.{back-does}
 use Rattle.bench.proofs.turns.back.Statement.{statement}
 use Rattle.bench.proofs.turns.back.Tie as tie
 
--- a query's text has a place for 18 bytes
+-- a query's text has a place for 18 bytes: what owning the session tells of its field query
 short : (s : tie.Start) → length (s .args .session .query .bytes) ≡ 18
-short s = search needs
+short s = search (needs, s .good .0 .1 .1 .1 .1 .1 .0)
 
 deliver-requires : tie.Need-deliver-requires
 deliver-requires c κs = search needs
