@@ -11,4 +11,5 @@ pub mod Told
 pub mod Ran
 pub mod Numbers
 pub mod Agreement
+mod Worked
 pub mod Witness

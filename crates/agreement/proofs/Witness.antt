@@ -9,7 +9,7 @@ use lib.Dec.{leb}
 use lib.ListN.{length, getD, replicate}
 use borrow.Author.Tests.{leb-false}
 use Rattle.wire.specs.Answer.{result}
-use Rattle.wire.specs.Text.{any, has, high, isSpace, raised}
+use Rattle.wire.specs.Text.{ascii, any, has, high, isSpace, raised}
 use Rattle.wire.proofs.Cases.{or-none}
 use Rattle.hex.specs.Digits.{hexDigit}
 use Rattle.hex.specs.Read.{digit, leading}
@@ -17,7 +17,7 @@ use Rattle.pid.specs.J1979.{j1979}
 use Rattle.pid.specs.Lengths.{mode01Lengths}
 use Rattle.group.specs.Group.{groupBytes}
 use Rattle.line_list.specs.Lines.{line, lineList}
-use Rattle.value.specs.Values.{Value, valueBytes}
+use Rattle.value.specs.Values.{Value, valueBytes, readRecord}
 use Rattle.value.specs.Same.{SameRecord}
 use Rattle.at_command.specs.Dialect.{atKind}
 use Rattle.reply.specs.Reply.{lineText, replyText}
@@ -37,7 +37,7 @@ use Rattle.exchange.specs.Deliver.{pieces, delivered}
 use Rattle.bench.specs.declared.RunAnswer.the-variants.{Complete}
 use Rattle.bench.specs.Run.{initialised, part, runSays, recorded, lent}
 use Rattle.agreement.specs.Lines.{end, next, alone, table}
-use Rattle.agreement.specs.Demand.{GoodQueries, Drive, hireRecord}
+use Rattle.agreement.specs.Demand.{GoodQueries, Drive, hireRecord, standing, comesTo}
 use Rattle.agreement.proofs.Agreement.{agreement}
 
 -- engine speed from an unknown ECU, or from 7E8, with the low byte of its value; and the maker's own PID E0
@@ -117,6 +117,11 @@ second = others 0xF8 refl refl refl
 third : Drive
 unfolding has high isSpace raised hexDigit digit leading j1979 mode01Lengths groupBytes lineList valueBytes atKind lineText replyText canonical byteNumber byteTaken byteSays bytesSay answerSays replySays queryText textLines textLine replyLines walked answerOrder learnLength initSays queryPidSays queryPidsSays replyTakes pieceSays finishSays script exchanged pieces delivered initialised part runSays
 third = others 0xF9 refl refl refl
+
+-- two parts stand in the first one's record, and its vehicle was handed the two queries' texts
+first-run : (standing first ≡ 2) × (comesTo first .handed ≡ ascii "010C1" ∷ ascii "01E0" ∷ [])
+unfolding first readRecord has high isSpace raised hexDigit digit leading j1979 mode01Lengths groupBytes lineList valueBytes atKind lineText replyText canonical byteNumber byteTaken byteSays bytesSay answerSays replySays queryText textLines textLine replyLines walked answerOrder learnLength initSays queryPidSays queryPidsSays replyTakes pieceSays finishSays script exchanged pieces delivered initialised part runSays
+first-run = (refl, refl)
 
 -- the records of the first two are equal, since the vehicles gave the same
 same-records : SameRecord (hireRecord first) (hireRecord second)

@@ -1,8 +1,9 @@
--- Document 01's worked example of a run.
+-- Document 01's worked example of a run; the same script twice in a record of nine bytes; queries with no data; a malformed script.
 use mathlib.Core.Path.{_≡_, refl}
 use mathlib.Core.Bool.{true}
-use mathlib.Core.List.{[], _∷_}
-use Rattle.wire.specs.Answer.{result}
+use mathlib.Core.List.{List, [], _∷_, _++_}
+use Prim.Native.Nat.{ℕ}
+use Rattle.wire.specs.Answer.{result, refused}
 use Rattle.wire.specs.Text.{ascii, has, high, isSpace, raised}
 use Rattle.hex.specs.Digits.{hexDigit}
 use Rattle.hex.specs.Read.{digit, leading}
@@ -28,7 +29,21 @@ use Rattle.exchange.specs.Exchange.{exchanged}
 use Rattle.exchange.specs.Deliver.{pieces, delivered}
 use Rattle.bench.specs.Run.{initialised, part, runSays}
 
-example : runSays true [] 65536 (0x01 ∷ 0x0C ∷ 0x02 ∷ 0x01 ∷ 0x00 ∷ 0x04 ∷ 0x41 ∷ 0x0C ∷ 0x1A ∷ 0xF8 ∷ []) ≡
-    record { answer = result tt; parts = 0x01 ∷ 0x0C ∷ 0xE9 ∷ 0x0F ∷ 0x04 ∷ 0x41 ∷ 0x0C ∷ 0x1A ∷ 0xF8 ∷ []; handed = ascii "010C1" ∷ [] }
+abbrev worked : List ℕ
+worked = 0x01 ∷ 0x0C ∷ 0x02 ∷ 0x01 ∷ 0x00 ∷ 0x04 ∷ 0x41 ∷ 0x0C ∷ 0x1A ∷ 0xF8 ∷ []
+
+abbrev workedPart : List ℕ
+workedPart = 0x01 ∷ 0x0C ∷ 0xE9 ∷ 0x0F ∷ 0x04 ∷ 0x41 ∷ 0x0C ∷ 0x1A ∷ 0xF8 ∷ []
+
+-- engine speed asked with no count, and no line for it
+abbrev noData : List ℕ
+noData = 0x01 ∷ 0x0C ∷ 0x00 ∷ 0x00 ∷ []
+
+-- the second query of a pair is a repeat: the server hands out the last command replied to, and answers `?` where there is none, so that the query follows in full
+examples :
+    (runSays true [] 65536 worked ≡ record { answer = result tt; parts = workedPart; handed = ascii "010C1" ∷ [] }) ×
+    (runSays true [] 9 (worked ++ worked) ≡ record { answer = refused 6; parts = workedPart; handed = ascii "010C1" ∷ ascii "010C1" ∷ [] }) ×
+    (runSays true [] 2 (noData ++ noData) ≡ record { answer = result tt; parts = 0x00 ∷ 0x00 ∷ []; handed = ascii "010C" ∷ ascii "010C" ∷ [] }) ×
+    (runSays true [] 9 (0x00 ∷ worked) ≡ record { answer = refused 5; parts = []; handed = [] })
 unfolding has high isSpace raised hexDigit digit leading j1979 mode01Lengths groupBytes lineList valueBytes atKind lineText replyText canonical byteNumber byteTaken byteSays bytesSay answerSays replySays queryText textLines textLine replyLines walked answerOrder learnLength initSays queryPidSays queryPidsSays replyTakes pieceSays finishSays script exchanged pieces delivered initialised part runSays
-example = refl
+examples = (refl, refl, refl, refl)

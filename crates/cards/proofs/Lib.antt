@@ -1,3 +1,6 @@
 pub mod CardsHold
 pub mod NumbersHold
 pub mod TextsHold
+pub mod ServerHold
+pub mod ClientHold
+pub mod LearningHold

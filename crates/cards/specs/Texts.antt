@@ -41,7 +41,7 @@ texts =
     example "digits written" (hexId 0x7E8 ++ (hexId 0x00C ++ (hexByte 0x0C ++ hexBytes (0x41 ∷ 0xAF ∷ [])))) (ascii "7E800C0C41AF") ∷
     example "a query's text with no count, 5, 16 and 255" (map (queryText (0x0C ∷ [])) (map countOf (Any ∷ Given 5 ∷ Given 16 ∷ Given 255 ∷ [])))
     (ascii "010C" ∷ ascii "010C 5" ∷ ascii "010C 16" ∷ ascii "010C 255" ∷ []) ∷
-    example "a kept query's text" (text (record { bytes = ascii "010C 1" ++ replicate 14 0xFF; len = 6 })) (ascii "010C 1") ∷
+    example "a kept query's text" (text (record { bytes = ascii "010C 1" ++ replicate 12 0xFF; len = 6 })) (ascii "010C 1") ∷
     example "the line of a reply: where it starts and ends, and where the next starts" (lineFrom speedReply 0) (lineStep (step.Line 1 7 9)) ∷
     example "no line after it" (lineFrom speedReply 9) (lineStep step.End) ∷
     example "a reader's position and text after a step" (pastStep 0 (lineFrom speedReply 0) ∷ stepText speedReply (lineFrom speedReply 0)) (9 ∷ ascii "410D20") ∷

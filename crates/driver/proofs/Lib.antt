@@ -1,3 +1,4 @@
 mod LogLaws
 mod ScriptLaws
 mod CallLaws
+mod Worked

@@ -1,2 +1,3 @@
 mod FitLaws
 mod HireLaws
+mod Worked

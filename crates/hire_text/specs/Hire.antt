@@ -13,3 +13,7 @@ hireRun room s = runSays true [] room s
 
 unfoldable pub hireText : ℕ → List ℕ → List ℕ
 hireText room s = reportText (hireRun room s .answer) (hireRun room s .parts)
+
+-- what `hire` prints of a script: "a record buffer of 65,536 bytes"
+abbrev pub hirePrints : List ℕ → List ℕ
+hirePrints s = hireText 65536 s

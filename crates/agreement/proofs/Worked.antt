@@ -1,0 +1,49 @@
+-- What a vehicle gave, worked out by hand from document 01: card 5's line with its ECU unknown, and a line of 7E9 with a PID outside the table; how many queries fit.
+use mathlib.Core.Path.{_≡_, refl}
+use mathlib.Core.List.{List, [], _∷_}
+use Prim.Native.Nat.{ℕ}
+use Rattle.wire.specs.Text.{ascii}
+use Rattle.hex.specs.Digits.{hexDigit}
+use Rattle.group.specs.Group.{groupBytes}
+use Rattle.line_list.specs.Lines.{line}
+use Rattle.value.specs.Values.{valueBytes, valuesBytes, readRecord}
+use Rattle.pid.specs.J1979.{j1979}
+use Rattle.query.specs.Query.{queryText}
+use Rattle.reply.specs.Reply.{lineText, replyText}
+use Rattle.script.specs.Script.{Query, query}
+use Rattle.agreement.specs.Vehicle.{given}
+use Rattle.agreement.specs.Demand.{commands, fitting, partsIn, SameFirst}
+
+two-pids : valuesBytes (given (line 0 (0x41 ∷ 0x0C ∷ 0x1A ∷ 0xF8 ∷ 0x0D ∷ 0x20 ∷ []) ∷ [])) ≡
+    0x0C ∷ 0xE9 ∷ 0x0F ∷ 0x04 ∷ 0x41 ∷ 0x0C ∷ 0x1A ∷ 0xF8 ∷ 0x0D ∷ 0xE9 ∷ 0x0F ∷ 0x03 ∷ 0x41 ∷ 0x0D ∷ 0x20 ∷ []
+unfolding valueBytes groupBytes j1979
+two-pids = refl
+
+outside-table : valuesBytes (given (line 0x7EA (0x41 ∷ 0xE0 ∷ 0x0D ∷ 0x0C ∷ []) ∷ line 0 (0x42 ∷ 0x0D ∷ 0x20 ∷ []) ∷ [])) ≡ 0xE0 ∷ 0xEA ∷ 0x0F ∷ 0x04 ∷ 0x41 ∷ 0xE0 ∷ 0x0D ∷ 0x0C ∷ []
+unfolding valueBytes groupBytes j1979
+outside-table = refl
+
+-- two queries of the worked script: their commands, less spaces; parts of nine bytes each, so that two fit in 18 and one in 17
+abbrev twice : List Query
+twice = let q = query (0x0C ∷ []) 2 (line 0 (0x41 ∷ 0x0C ∷ 0x1A ∷ 0xF8 ∷ []) ∷ []) in q ∷ q ∷ []
+
+own-texts : commands twice ≡ ascii "010C1" ∷ ascii "010C1" ∷ []
+unfolding queryText hexDigit
+own-texts = refl
+
+two-fit : fitting 18 twice ≡ 2
+unfolding replyText lineText hexDigit valueBytes groupBytes j1979
+two-fit = refl
+
+one-fits : fitting 17 twice ≡ 1
+unfolding replyText lineText hexDigit valueBytes groupBytes j1979
+one-fits = refl
+
+-- a record of two parts, and one that has the first of them alone
+two-parts : partsIn (readRecord (0x00 ∷ 0x01 ∷ 0x0D ∷ 0xE9 ∷ 0x0F ∷ 0x03 ∷ 0x41 ∷ 0x0D ∷ 0x20 ∷ [])) ≡ 2
+unfolding readRecord
+two-parts = refl
+
+same-first : SameFirst 1 (0x00 ∷ 0x01 ∷ 0x0D ∷ 0xE9 ∷ 0x0F ∷ 0x03 ∷ 0x41 ∷ 0x0D ∷ 0x20 ∷ []) (0x00 ∷ [])
+unfolding readRecord
+same-first = ((λ p. refl), tt)

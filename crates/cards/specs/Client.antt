@@ -1,0 +1,130 @@
+-- Examples of the client's end: starts, pieces, failures and the pieces of a run. Document 01, "Numbers by who causes them", client_session.rs, "The bench run"; the Rust's
+-- `init`, `command` and `execute`.
+use mathlib.Core.Bool.{Bool, true, false}
+use mathlib.Core.List.{List, [], _∷_, _++_, map}
+use Prim.Native.Nat.{ℕ, zero, suc}
+use Prim.Native.String.{String}
+use lib.ListN.{length, replicate}
+use Rattle.wire.specs.Answer.{Answer, result, refused}
+use Rattle.wire.specs.Text.{ascii}
+use Rattle.pid.specs.Lengths.{mode01Lengths}
+use Rattle.server_state.specs.declared.FeatureSupport.the-variants as support
+use Rattle.server_state.specs.State.{fresh, countIn, withFraming, withRepeat, withMulti}
+use Rattle.client_session.specs.declared.Under.the-variants as under
+use Rattle.client_session.specs.declared.ClientSession.{ClientSession}
+use Rattle.client_session.specs.declared.StartAnswer.the-variants as start
+use Rattle.client_session.specs.declared.PieceAnswer.the-variants as piece
+use Rattle.client_session.specs.declared.Failure.the-variants as failure
+use Rattle.client_session.specs.Session.{Client, freshClient, Said, lent, withUnder}
+use Rattle.client_session.specs.Start.{initSays, commandSays, queryPidSays, queryPidsSays, startAnswer, startServed}
+use Rattle.client_session.specs.Piece.{Progress, awaited, sent, over, complete, pieceSays, failureSays, pieceAnswer, isWrite, pieceReceived, pieceLent}
+use Rattle.client_session.specs.Pieces.{fed, joined}
+use Rattle.exchange.specs.Deliver.{pieces, delivered, deliveryReceived, receiving}
+use Rattle.cards.specs.Example.{Example, example}
+
+abbrev pub emptyStore : List ℕ
+emptyStore = replicate 4096 0
+
+-- a session with framing wanted and repeat on
+abbrev pub new : Client
+new = freshClient true true
+
+-- a reply in one piece, and the session after it
+abbrev pub reply : Client → String → Said Progress
+reply c t = pieceSays 80 c (ascii t) emptyStore
+
+-- `010C 1` asked, and the session when its reply was complete and finished
+abbrev asking : Said (Unit {0})
+asking = queryPidSays 80 new 0x0C 2
+
+abbrev asked : Client
+asked = withUnder (reply (asking .next) "410C1AF8\r\r>" .next) under.Nothing 0
+
+abbrev again : Said (Unit {0})
+again = queryPidSays 80 asked 0x0C 2
+
+-- the initialisation, the session after n replies, and what goes out at each
+abbrev initialising : Client
+initialising = initSays 80 asked .next
+
+abbrev after : ℕ → Client → Client
+after zero c = c
+after (suc n) c = after n (reply c "OK\r\r>" .next)
+
+abbrev sentAfter : ℕ → Client → List (List ℕ)
+sentAfter zero c = []
+sentAfter (suc n) c = reply c "OK\r\r>" .text ∷ sentAfter n (reply c "OK\r\r>" .next)
+
+-- a raw command, and framing when its reply is complete
+abbrev framingAfter : Client → String → Bool
+framingAfter c t = reply (commandSays 80 c (ascii t) .next) "OK\r\r>" .next .known .framing
+
+-- a query with 4,090 bytes of its reply in the store
+abbrev nearlyFull : Client
+nearlyFull = withUnder (asking .next) under.Query 4090
+
+abbrev fullStore : List ℕ
+fullStore = replicate 4096 65
+
+-- a ClientSession that has asked `010C`, with so many bytes of the reply in the store
+abbrev held : ℕ → ClientSession
+held n = record {
+  «want_framing» = true;
+  server = fresh true;
+  last = record { bytes = replicate 18 0; len = 0 };
+  query = record { bytes = ascii "010C" ++ replicate 14 0; len = 4 };
+  pids = 0x0C ∷ replicate 5 0;
+  «pids_len» = 1;
+  several = false;
+  under = under.Query;
+  got = n;
+}
+
+abbrev pub inPieces : List (List ℕ)
+inPieces = ascii "410C" ∷ ascii "1AF8\r" ∷ ascii "\r>" ∷ ascii "x" ∷ []
+
+abbrev out : List ℕ
+out = replicate 80 9
+
+abbrev pub client : List Example
+client =
+    example "a query goes out" (lent (queryPidSays 80 new 0x0C 0) out) (startServed (record { answer = start.Sent; written = 5; session = held 0 }) (ascii "010C\r" ++ replicate 75 9)) ∷
+    example "a piece of its reply is stored" (pieceLent (queryPidSays 80 new 0x0C 0 .next) (ascii "41") emptyStore out)
+    (pieceReceived (record { answer = piece.Awaited; written = 0; session = held 2 }) out (ascii "41" ++ replicate 4094 0)) ∷
+    example "as in a delivery, which uses up a piece length" (receiving (delivered 80 (queryPidSays 80 new 0x0C 0 .next) emptyStore (2 ∷ 9 ∷ []) (ascii "41")) out)
+    (deliveryReceived (2 ∷ 9 ∷ []) (record { answer = piece.Awaited; written = 0; session = held 2; used = 1 }) (ascii "41" ++ replicate 4094 0) out) ∷
+    example "a query again, and a `?` for it" (asking .text ∷ again .text ∷ reply (again .next) "?\r\r>" .text ∷ []) (ascii "010C 1\r" ∷ ascii "\r" ∷ ascii "010C 1\r" ∷ []) ∷
+    example "repeat after a `?`, and after another reply" (reply (again .next) "?\r\r>" .next .known .repeat ∷ reply (again .next) "NO DATA\r\r>" .next .known .repeat ∷ []) (support.No ∷ support.Yes ∷ []) ∷
+    example "what these replies come to" (reply (again .next) "?\r\r>" .answer ∷ reply (again .next) "NO DATA\r\r>" .answer ∷ []) (result sent ∷ result complete ∷ []) ∷
+    example "another query goes out in full" (queryPidSays 80 asked 0x0C 3 .text) (ascii "010C 2\r") ∷
+    example "the initialisation" (initSays 80 asked .text ∷ sentAfter 6 initialising) (ascii "ATZ\r" ∷ ascii "ATE0\r" ∷ ascii "ATL0\r" ∷ ascii "ATS0\r" ∷ ascii "ATSP0\r" ∷ ascii "ATH1\r" ∷ [] ∷ []) ∷
+    example "with no framing wanted" (sentAfter 5 (initSays 80 (freshClient false true) .next)) (ascii "ATE0\r" ∷ ascii "ATL0\r" ∷ ascii "ATS0\r" ∷ ascii "ATSP0\r" ∷ ascii "ATH0\r" ∷ []) ∷
+    example "its last reply sets framing" (after 5 initialising .known .framing ∷ after 6 initialising .known .framing ∷ []) (false ∷ true ∷ []) ∷
+    example "a failed read while ATZ's answer is awaited" (failureSays 80 initialising (isWrite failure.Read) .text) (ascii "ATE0\r") ∷
+    example "a failed write there" (failureSays 80 initialising (isWrite failure.Write) .answer) (refused 7) ∷
+    example "which keeps the last query" (failureSays 80 initialising (isWrite failure.Write) .next .known .last) (ascii "010C 1") ∷
+    example "raw commands" (map (λ (t : String). commandSays 80 asked (ascii t) .text) ("ath1" ∷ "ATH1\r" ∷ "" ∷ [])) (ascii "ath1\r" ∷ ascii "ATH1\r" ∷ ascii "\r" ∷ []) ∷
+    example "one forgets the last query" (commandSays 80 asked (ascii "ATI") .next .known .last) [] ∷
+    example "framing after them, and then after some more" (map (framingAfter new) ("ath1" ∷ "ATH1\r" ∷ "" ∷ []) ++ map (framingAfter (after 6 initialising)) ("ATI" ∷ "ATH0" ∷ "atz" ∷ []))
+    (true ∷ false ∷ false ∷ true ∷ false ∷ false ∷ []) ∷
+    example "raw commands out of turn, too long, not ASCII, and with little room"
+    (commandSays 80 (asking .next) [] .answer ∷ commandSays 80 new (replicate 65 65) .answer ∷ commandSays 80 new (0x80 ∷ []) .answer ∷ commandSays 79 new [] .answer ∷ [])
+    (refused 1 ∷ refused 3 ∷ refused 4 ∷ refused 6 ∷ []) ∷
+    example "the numbers of a start" (map startAnswer (start.OutOfTurn ∷ start.PidCount ∷ start.TooLong ∷ start.NotAscii ∷ start.SmallBuffer ∷ [])) (map refused (1 ∷ 2 ∷ 3 ∷ 4 ∷ 6 ∷ [])) ∷
+    example "6 bytes after 4,090, and 7" (pieceSays 80 nearlyFull (ascii "41\r\r>\r") fullStore .answer ∷ pieceSays 80 nearlyFull (ascii "410D\r\r>") fullStore .answer ∷ []) (result complete ∷ refused 8 ∷ []) ∷
+    example "an empty piece, a byte of 80, a piece of 129 bytes, and little room" (reply (again .next) "" .answer ∷ pieceSays 80 (again .next) (0x80 ∷ 62 ∷ []) emptyStore .answer ∷
+    pieceSays 80 (again .next) (replicate 129 65) emptyStore .answer ∷ pieceSays 79 (again .next) (65 ∷ []) emptyStore .answer ∷ []) (refused 7 ∷ refused 9 ∷ refused 3 ∷ refused 6 ∷ []) ∷
+    example "an empty piece forgets the last query" (reply (again .next) "" .next .known .last) [] ∷
+    example "and marks untested multi-PID support No" (reply (queryPidsSays 80 asked (0x0C ∷ 0x0D ∷ []) 0 .next) "" .next .known .multi ∷ reply (again .next) "" .next .known .multi ∷ []) (support.No ∷ support.Unknown ∷ []) ∷
+    example "failures out of turn, with little room, and of a query" (failureSays 80 asked true .answer ∷ failureSays 79 (asking .next) true .answer ∷ failureSays 80 (asking .next) false .answer ∷ [])
+    (refused 1 ∷ refused 6 ∷ refused 7 ∷ []) ∷
+    example "the numbers of a piece" (map pieceAnswer (piece.OutOfTurn ∷ piece.TooLong ∷ piece.SmallBuffer ∷ piece.Failed ∷ piece.TooMuch ∷ piece.NotAscii ∷ [])) (map refused (1 ∷ 3 ∷ 6 ∷ 7 ∷ 8 ∷ 9 ∷ [])) ∷
+    example "what else a piece says" (map pieceAnswer (piece.Awaited ∷ piece.Sent ∷ piece.Over ∷ piece.Complete ∷ [])) (map result (awaited ∷ sent ∷ over ∷ complete ∷ [])) ∷
+    example "pieces up to the one that completes the reply" (fed 80 (asking .next) emptyStore inPieces .said .answer) (result complete) ∷
+    example "the piece that is left" (fed 80 (asking .next) emptyStore inPieces .left) (ascii "x" ∷ []) ∷
+    example "the pieces joined" (joined inPieces) (ascii "410C1AF8\r\r>x") ∷
+    example "a reply of 300 bytes cut by the lengths 3, 0, 200 and 1" (map (λ (p : List ℕ). length p) (pieces (3 ∷ 0 ∷ 200 ∷ 1 ∷ []) (replicate 300 65))) (3 ∷ 128 ∷ 128 ∷ 1 ∷ 40 ∷ []) ∷
+    example "what is set and learned on the peer" (withMulti (withRepeat (withFraming (fresh true) true) support.No) support.Yes)
+    (record { framing = true; repeat = support.No; «multi_pid» = support.Yes; «pid_lengths» = mode01Lengths; «ecu_counts» = replicate 256 0 }) ∷
+    example "counts of none, 1 and 255, as a query has them" (map (countIn (0 ∷ 1 ∷ 255 ∷ [])) (0 ∷ 1 ∷ 2 ∷ [])) (0 ∷ 2 ∷ 256 ∷ []) ∷
+    []
