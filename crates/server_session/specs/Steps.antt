@@ -17,10 +17,9 @@ use Rattle.server_session.specs.declared.Flags.{Flags}
 use Rattle.server_session.specs.declared.Did.{Did}
 use Rattle.server_session.specs.declared.Read.{Read}
 use Rattle.server_session.specs.declared.Run.{Run}
-use Rattle.server_session.specs.declared.Wrote.{Wrote}
-use Rattle.server_session.specs.Session.{Session, isReading, Said, refusing, Served}
+use Rattle.server_session.specs.Session.{Session, isReading, Said, refusing}
 use Rattle.server_session.specs.Bytes.{byteAnswer, ServedBytes}
-use Rattle.server_session.specs.Replies.{serverAnswer, answered}
+use Rattle.server_session.specs.Replies.{answered}
 
 -- more bytes are looked at after this answer
 abbrev pub goesOn : Answer Phase → Bool
@@ -111,24 +110,6 @@ unlessRefused (refused n) s d = refusing n s
 abbrev pub rejected : Session → List ℕ → Said (Unit {0})
 rejected s text = answered (s .state) (chipReply (s .state .linefeeds) (text ∷ []))
 
--- a session by its phase and the settings that a reply goes by
-abbrev pub replying : Phase → Bool → Bool → Bool → Bool → List ℕ → List ℕ → Session
-replying p echo linefeeds spaces headers last line = record {
-  state = record { echo = echo; linefeeds = linefeeds; spaces = spaces; headers = headers; last = last };
-  line = line;
-  phase = p;
-}
-
 -- the settings after a reply with a line list of some bytes
 abbrev pub keptAfter : ℕ → Session → Settings
 keptAfter n s = cond (eqb n 0) (s .state) (withLast (s .state) (s .line))
-
--- what was written serves what is said
-abbrev pub wroteServed : Session → List ℕ → Wrote → List ℕ → Served (Unit {0})
-wroteServed s list w out =
-    record {
-      answer = serverAnswer (w .answer);
-      written = w .written;
-      next = unlessRefused (serverAnswer (w .answer)) s (answered (keptAfter (length list) s) []) .next;
-      out = out;
-    }

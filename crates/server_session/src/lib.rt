@@ -122,12 +122,6 @@ struct Run {
     at: usize,
 }
 
-// What a reply wrote, or the number that it got.
-struct Wrote {
-    answer: ServerAnswer,
-    written: usize,
-}
-
 fn is_reading(phase: Phase) -> bool
     ensures { λ r. ⌜ r ≡ isReading phase ⌝ }
 {
