@@ -11,7 +11,7 @@ use Rattle.server_session.specs.declared.ServerAnswer.{ServerAnswer}
 use Rattle.server_session.specs.declared.ServerAnswer.the-variants as server
 use Rattle.server_session.specs.Bytes.{byteAnswer}
 use Rattle.server_session.specs.Replies.{serverAnswer}
-use Rattle.server_session.specs.Steps.{goesOn, counted, isSent}
+use Rattle.server_session.specs.Steps.{goesOn, isSent}
 use Rattle.server_session.proofs.ByteAnswer as B
 use Rattle.server_session.proofs.ServerAnswer as S
 
@@ -27,31 +27,6 @@ stops byte.OutOfTurn h = refl
 stops byte.SmallBuffer h = refl
 stops byte.NotAscii h = refl
 stops byte.LineFull h = refl
-
--- the results, and the numbers
-abbrev results : List ℕ
-results = 0 ∷ 1 ∷ 2 ∷ []
-
-pub one-taken : (a : ByteAnswer) → OneOf results (tagOf B.the-type a) → counted (byteAnswer a) ≡ 1
-one-taken byte.Taken h = refl
-one-taken byte.AtCommand h = refl
-one-taken byte.ObdCommand h = refl
-one-taken byte.OutOfTurn h = absurd (miss results 3 tt h)
-one-taken byte.SmallBuffer h = absurd (miss results 4 tt h)
-one-taken byte.NotAscii h = absurd (miss results 5 tt h)
-one-taken byte.LineFull h = absurd (miss results 6 tt h)
-
-abbrev numbers : List ℕ
-numbers = 3 ∷ 4 ∷ 5 ∷ 6 ∷ []
-
-pub none-taken : (a : ByteAnswer) → OneOf numbers (tagOf B.the-type a) → counted (byteAnswer a) ≡ 0
-none-taken byte.Taken h = absurd (miss numbers 0 tt h)
-none-taken byte.AtCommand h = absurd (miss numbers 1 tt h)
-none-taken byte.ObdCommand h = absurd (miss numbers 2 tt h)
-none-taken byte.OutOfTurn h = refl
-none-taken byte.SmallBuffer h = refl
-none-taken byte.NotAscii h = refl
-none-taken byte.LineFull h = refl
 
 abbrev unsent : List ℕ
 unsent = 1 ∷ 2 ∷ 3 ∷ 4 ∷ 5 ∷ []

@@ -16,7 +16,7 @@ use Rattle.line_list.proofs.StepLaws.{left-end}
 use Rattle.wire.specs.Put.{Put}
 use Rattle.wire.specs.Text.{ascii, high}
 use Rattle.wire.proofs.PutLaws.{put-whole}
-use Rattle.client_state.specs.Settings.{Settings, settings, withLast}
+use Rattle.client_state.specs.Settings.{settings, withLast}
 use Rattle.client_state.specs.declared.ClientState.{ClientState}
 use Rattle.at_command.specs.Dialect.{atKind, kindSettings, kindLines}
 use Rattle.at_command.specs.declared.AtKind.{AtKind}
@@ -32,10 +32,9 @@ use Rattle.server_session.specs.declared.ServerAnswer.{ServerAnswer}
 use Rattle.server_session.specs.declared.ServerAnswer.the-variants as answer
 use Rattle.server_session.specs.declared.ServerSession.{ServerSession}
 use Rattle.server_session.specs.declared.ReplyStep.{ReplyStep}
-use Rattle.server_session.specs.declared.Wrote.{Wrote}
 use Rattle.server_session.specs.Session.{Session, session, Said, refusing, Served, lent}
 use Rattle.server_session.specs.Replies.{isAt, answered, atAnswered, answerSays, isObd, lastAfter, repliedTo, replyRead, replySays, rejectSays, serverAnswer, replyServed}
-use Rattle.server_session.specs.Steps.{isSent, unlessRefused, rejected, keptAfter, wroteServed}
+use Rattle.server_session.specs.Steps.{isSent, unlessRefused, rejected, keptAfter}
 
 -- the step that sends what was written, with some settings
 abbrev pub sentStep : ClientState → List ℕ → ℕ → ReplyStep
@@ -101,15 +100,16 @@ module _ (s : Session) (list : List ℕ) (out left : List ℕ) (turn : isObd (s 
   abbrev hd : Bool
   hd = s .state .headers
 
-  abbrev wrote : ServerAnswer → ℕ → Wrote
-  wrote a n = record { answer = a; written = n }
+  -- a number leaves the session
+  abbrev numbered : ℕ → Served (Unit {0})
+  numbered n = record { answer = refused n; written = 0; next = s; out = left }
 
   in-turn : replySays (length out) s list ≡ replyRead (length out) s (lineList list)
   unfolding replySays
   in-turn = rw turn
 
   five : (g : Read (List Line)) → R.lent Malformed left ≡ R.repliedWith lf sp hd g out →
-      wroteServed s list (wrote answer.Malformed 0) left ≡ lent (replyRead (length out) s g) out
+      numbered 5 ≡ lent (replyRead (length out) s g) out
   five malformed q = let e : left ≡ out = ap (λ (x : R.Lent). x .out) q in rw e
   five (got ls rest) q =
       let text = replyText lf sp hd ls in
@@ -118,7 +118,7 @@ module _ (s : Session) (list : List ℕ) (out left : List ℕ) (turn : isObd (s 
       (λ t. let r : R.lent Malformed left ≡ record { answer = result (length text); out = sets out 0 text } = rw t at q in from-no (cc (ap (λ (x : R.Lent). x .answer) r)))
 
   six : (g : Read (List Line)) → R.lent SmallBuffer left ≡ R.repliedWith lf sp hd g out →
-      wroteServed s list (wrote answer.SmallBuffer 0) left ≡ lent (replyRead (length out) s g) out
+      numbered 6 ≡ lent (replyRead (length out) s g) out
   six malformed q = from-no (cc (ap (λ (x : R.Lent). x .answer) q))
   six (got ls rest) q =
       let text = replyText lf sp hd ls in
@@ -129,11 +129,11 @@ module _ (s : Session) (list : List ℕ) (out left : List ℕ) (turn : isObd (s 
       rw (t, e))
       (λ t. let r : R.lent SmallBuffer left ≡ record { answer = result (length text); out = sets out 0 text } = rw t at q in from-no (cc (ap (λ (x : R.Lent). x .answer) r)))
 
-  pub reply-malformed : R.lent Malformed left ≡ R.replied lf sp hd list out → wroteServed s list (wrote answer.Malformed 0) left ≡ lent (replySays (length out) s list) out
+  pub reply-malformed : R.lent Malformed left ≡ R.replied lf sp hd list out → numbered 5 ≡ lent (replySays (length out) s list) out
   unfolding R.replied
   reply-malformed q = five (lineList list) q ∙ ap (λ d. lent d out) (sym in-turn)
 
-  pub reply-small : R.lent SmallBuffer left ≡ R.replied lf sp hd list out → wroteServed s list (wrote answer.SmallBuffer 0) left ≡ lent (replySays (length out) s list) out
+  pub reply-small : R.lent SmallBuffer left ≡ R.replied lf sp hd list out → numbered 6 ≡ lent (replySays (length out) s list) out
   unfolding R.replied
   reply-small q = six (lineList list) q ∙ ap (λ d. lent d out) (sym in-turn)
 
@@ -152,7 +152,8 @@ module _ (s : Session) (list : List ℕ) (out left : List ℕ) (turn : isObd (s 
       rw (t, none))
       (λ t. rw t (some-lines ls (λ z. eqb-false (length list) 0 t (no-lines 64 list rest (g ∙ rw z)))))
 
-  pub reply-lines : (n : ℕ) → R.lent (Written n) left ≡ R.replied lf sp hd list out → wroteServed s list (wrote answer.Sent n) left ≡ lent (replySays (length out) s list) out
+  reply-lines : (n : ℕ) → R.lent (Written n) left ≡ R.replied lf sp hd list out →
+      record { answer = result tt; written = n; next = record { state = keptAfter (length list) s; line = []; phase = Reading }; out = left } ≡ lent (replySays (length out) s list) out
   reply-lines n q =
       let (ls, rest, g, fits, p) = written-told lf sp hd list out q in
       let text = replyText lf sp hd ls in
@@ -161,6 +162,11 @@ module _ (s : Session) (list : List ℕ) (out left : List ℕ) (turn : isObd (s 
       let k = kept-after ls rest g in
       (λ t. record { answer = result tt; written = all t; next = record { state = k t; line = []; phase = Reading }; out = p .bytes t }) ∙
       ap (λ d. lent d out) (sym (in-turn ∙ e))
+
+  -- the session that waits again, with the settings that the lines leave
+  pub reply-sent : (state : ClientState) (line : List ℕ) (n : ℕ) → R.lent (Written n) left ≡ R.replied lf sp hd list out → settings state ≡ keptAfter (length list) s →
+      replyServed (sentStep state line n) left ≡ lent (replySays (length out) s list) out
+  reply-sent state line n q k = (λ t. record { answer = result tt; written = n; next = record { state = k t; line = []; phase = Reading }; out = left }) ∙ reply-lines n q
 
 -- By the answer that was found first: a number leaves the session, and what is sent is said.
 
@@ -171,10 +177,6 @@ unless-sent (refused n) s d e = from-no cc
 pub says-sent : (a : ServerAnswer) (s : Session) {x d : Said (Unit {0})} → x ≡ unlessRefused (serverAnswer a) s d → isSent (serverAnswer a) ≡ true → x ≡ d
 says-sent a s {d = d} q e = q ∙ unless-sent (serverAnswer a) s d e
 
-next-refused : (a : Answer (Unit {0})) (s : Session) (d : Said (Unit {0})) → isSent a ≡ false → unlessRefused a s d .next ≡ s
-next-refused (result u) s d e = from-no cc
-next-refused (refused n) s d e = refl
-
 serves-refused : (a : Answer (Unit {0})) (s : Session) (d : Said (Unit {0})) (out : List ℕ) → isSent a ≡ false →
     record { answer = a; written = 0; next = s; out = out } ≡ lent (unlessRefused a s d) out
 serves-refused (result u) s d out e = from-no cc
@@ -183,24 +185,6 @@ serves-refused (refused n) s d out e = refl
 pub refused-served : (self : ServerSession) (a : ServerAnswer) {x : Said (Unit {0})} (d : Said (Unit {0})) (out : List ℕ) → x ≡ unlessRefused (serverAnswer a) (session self) d → isSent (serverAnswer a) ≡ false →
     replyServed (record { answer = a; written = 0; session = self }) out ≡ lent x out
 refused-served self a d out q e = serves-refused (serverAnswer a) (session self) d out e ∙ ap (λ x. lent x out) (sym q)
-
-sent-alike : (a : Answer (Unit {0})) (s : Session) {k : Settings} {n : ℕ} {out : List ℕ} (m : Settings) → isSent a ≡ true → m ≡ k →
-    _≡_ {A = Served (Unit {0})} (record { answer = result tt; written = n; next = record { state = m; line = []; phase = Reading }; out = out })
-    (record { answer = a; written = n; next = unlessRefused a s (answered k []) .next; out = out })
-sent-alike (result u) s {k} {n} {out} m e q = λ i. record { answer = result tt; written = n; next = record { state = q i; line = []; phase = Reading }; out = out }
-sent-alike (refused n) s m e q = from-no cc
-
-module _ (self : ServerSession) (list left : List ℕ) (w : Wrote) {x : Served (Unit {0})} (q : wroteServed (session self) list w left ≡ x) where
-  -- the session that waits again, after a reply that was written
-  pub reply-sent : (state : ClientState) → isSent (serverAnswer (w .answer)) ≡ true → settings state ≡ keptAfter (length list) (session self) →
-      replyServed (sentStep state (self .line) (w .written)) left ≡ x
-  reply-sent state e k = sent-alike (serverAnswer (w .answer)) (session self) (settings state) e k ∙ q
-
-  -- and as it was, after one that was not
-  pub reply-unsent : isSent (serverAnswer (w .answer)) ≡ false → replyServed (record { answer = w .answer; written = w .written; session = self }) left ≡ x
-  reply-unsent e =
-      let k = next-refused (serverAnswer (w .answer)) (session self) (answered (keptAfter (length list) (session self)) []) e in
-      (λ i. record { answer = serverAnswer (w .answer); written = w .written; next = sym k i; out = left }) ∙ q
 
 -- What the contracts give a caller: the bytes to send stand inside the lent buffer.
 record Short (room : ℕ) (d : Said (Unit {0})) : Type 0 where

@@ -20,15 +20,14 @@ use Rattle.server_session.specs.declared.Phase.{Phase}
 use Rattle.server_session.specs.declared.ByteAnswer.{ByteAnswer}
 use Rattle.server_session.specs.declared.Flags.{Flags}
 use Rattle.server_session.specs.declared.Did.{Did}
-use Rattle.server_session.specs.declared.Read.{Read}
 use Rattle.server_session.specs.declared.Turn.{Turn}
 use Rattle.server_session.specs.declared.Run.{Run}
 use Rattle.server_session.specs.Session.{Session, isReading, Said}
 use Rattle.server_session.specs.Bytes.{withLine, echoes, byteSays, byteAnswer, Heard, bytesSay, ServedBytes, lentBytes}
-use Rattle.server_session.specs.Steps.{Does, Serves, Shows, shown, goesOn, counted, isSpecial, RunFits, Ran, Joins}
+use Rattle.server_session.specs.Steps.{Does, Serves, Shows, shown, goesOn, isSpecial, RunFits, Ran, Joins}
 use Rattle.server_session.proofs.ByteLaws.{reading, text-short}
 use Rattle.server_session.proofs.StepLaws.{line-size, line-cut}
-use Rattle.server_session.proofs.BytesLaws.{after, lastOf, bytes-on, bytes-stop, onward-after, echo-append, echo-less, bytes-some}
+use Rattle.server_session.proofs.BytesLaws.{after, counted-most, lastOf, bytes-on, bytes-stop, onward-after, echo-append, echo-less, bytes-some}
 
 -- How many bytes a run may have
 
@@ -179,6 +178,9 @@ module _ (t : Turn) (state : Settings) (line input out : List ℕ) (i at : ℕ) 
 
 -- A turn of the loop: the byte after it
 
+pub one-most : {d : Said Phase} {state : Settings} {line out out₁ : List ℕ} {at : ℕ} {r : Did} → Does d state line out at r out₁ → r .taken ≤ 1
+one-most {d} q = omega (arith, q .taken, counted-most (d .answer))
+
 module _ (t : Turn) (state : Settings) (line input out : List ℕ) (i at : ℕ) (r : Did) (l o : List ℕ)
     (inside : at ≤ length out) (here : i < length input) (does : Does (byteSays (length out - at) (shown t state line) (getD input i 0)) state l out at r o) where
   abbrev said : Said Phase
@@ -201,24 +203,23 @@ module _ (t : Turn) (state : Settings) (line input out : List ℕ) (i at : ℕ) 
         says = rw (says, room, next) (sym (served-after i 1 h (does .text) fit));
       }
 
-  pub byte-stop : {n : ℕ} → n ≡ counted (byteAnswer (r .answer)) → goesOn (byteAnswer (r .answer)) ≡ false →
-      Serves (servedFrom i at (bytesSay (length out - at) (shown t state line) (drop i input)) out) state l (record { did = r; taken = i + n }) o
-  byte-stop {n} c e =
+  pub byte-stop : goesOn (byteAnswer (r .answer)) ≡ false →
+      Serves (servedFrom i at (bytesSay (length out - at) (shown t state line) (drop i input)) out) state l (record { answer = r .answer; turn = r .turn; taken = i + r .taken; at = r .at; repeat = r .repeat }) o
+  byte-stop e =
       let says : bytesSay (length out - at) (shown t state line) (drop i input) ≡ lastOf said =
       rw (drop-cons input i 0 here) (bytes-stop (length out - at) (shown t state line) (getD input i 0) (drop (suc i) input) (sym (ap goesOn (does .answer)) ∙ e)) in
-      let count : n ≡ counted (said .answer) = c ∙ ap counted (does .answer) in
       let end : r .at ≡ at + length (said .text) = put-whole (does .text) fit in
       record {
-        served = rw says (λ j. record { answer = does .answer j; taken = i + count j; written = end j; next = does .next j; out = does .text .bytes j });
+        served = rw says (λ j. record { answer = does .answer j; taken = i + does .taken j; written = end j; next = does .next j; out = does .text .bytes j });
         again = does .again;
       }
 
 -- no byte is left
 pub bytes-end : (room : ℕ) (t : Turn) (state : Settings) (line input out : List ℕ) (i at : ℕ) (a : ByteAnswer) → length input ≤ i → byteAnswer a ≡ result (t .phase) →
-    Serves (servedFrom i at (bytesSay room (shown t state line) (drop i input)) out) state line (record { did = record { answer = a; turn = t; at = at; repeat = false }; taken = i }) out
+    Serves (servedFrom i at (bytesSay room (shown t state line) (drop i input)) out) state line (record { answer = a; turn = t; taken = i; at = at; repeat = false }) out
 unfolding bytesSay
 bytes-end room t state line input out i at a h e = record { served = rw (drop-of-length-le input h, e) (simp add-zero); again = λ e. from-no cc }
 
 -- the same of what is served
-pub serves-same : {x y : ServedBytes} {state : Settings} {line out : List ℕ} {r : Read} → x ≡ y → Serves x state line r out → Serves y state line r out
+pub serves-same : {x y : ServedBytes} {state : Settings} {line out : List ℕ} {r : Did} → x ≡ y → Serves x state line r out → Serves y state line r out
 serves-same e q = record { served = q .served ∙ e; again = q .again }

@@ -20,7 +20,6 @@ use Rattle.server_session.specs.declared.Phase.the-variants as phase
 use Rattle.server_session.specs.declared.Turn.{Turn}
 use Rattle.server_session.specs.declared.Flags.{Flags}
 use Rattle.server_session.specs.declared.Did.{Did}
-use Rattle.server_session.specs.declared.Read.{Read}
 use Rattle.server_session.specs.declared.ServerSession.{ServerSession}
 use Rattle.server_session.specs.declared.ByteAnswer.{ByteAnswer}
 use Rattle.server_session.specs.declared.ByteAnswer.the-variants as answer
@@ -38,19 +37,19 @@ line-cut n line k = rw (← line-size n line k) (take-cut n line)
 
 -- a text is put, and a step goes on after it
 pub does-after : {d : Said Phase} {state : Settings} {line e out o₁ left : List ℕ} {at a : ℕ} {r : Did} → Put out at e a o₁ → Does d state line o₁ a r left → Does (afterText e d) state line out at r left
-does-after p q = record { answer = q .answer; next = q .next; text = put-then p (q .text); plain = q .plain; again = q .again }
+does-after p q = record { answer = q .answer; taken = q .taken; next = q .next; text = put-then p (q .text); plain = q .plain; again = q .again }
 
 -- the end of an empty line
 module _ (s : Session) (line : List ℕ) (f : Flags) (h : Shows (s .state) f) (out : List ℕ) (at : ℕ) where
   pub empty-unknown : {o : List ℕ} {end : ℕ} → f .last ≡ 0 → Put out at (chipReply (f .linefeeds) (ascii "?" ∷ [])) end o →
-      Does (emptyLine s [] (s .state .last)) (s .state) line out at (record { answer = answer.Taken; turn = record { phase = phase.Reading; len = 0 }; at = end; repeat = false }) o
+      Does (emptyLine s [] (s .state .last)) (s .state) line out at (record { answer = answer.Taken; turn = record { phase = phase.Reading; len = 0 }; taken = 1; at = end; repeat = false }) o
   empty-unknown z p =
       let ending = ap (λ (b : Bool). chipReply b (ascii "?" ∷ [])) (h .linefeeds) in
-      rw (empty-none s [] (s .state .last) (h .last ∙ z)) (record { answer = refl; next = refl; text = rw ending p; plain = λ _. refl; again = λ e. from-no cc })
+      rw (empty-none s [] (s .state .last) (h .last ∙ z)) (record { answer = refl; taken = refl; next = refl; text = rw ending p; plain = λ _. refl; again = λ e. from-no cc })
 
   pub empty-repeat : (f .last ≡ 0 → ⊥) →
-      Does (emptyLine s [] (s .state .last)) (s .state) line out at (record { answer = answer.ObdCommand; turn = record { phase = phase.ObdCommand; len = f .last }; at = at; repeat = true }) out
-  empty-repeat z = rw (empty-last s [] (s .state .last) (λ e. z (sym (h .last) ∙ e))) (record { answer = refl; next = refl; text = put-none out at; plain = λ e. from-no cc; again = λ _. sym (h .last) })
+      Does (emptyLine s [] (s .state .last)) (s .state) line out at (record { answer = answer.ObdCommand; turn = record { phase = phase.ObdCommand; len = f .last }; taken = 1; at = at; repeat = true }) out
+  empty-repeat z = rw (empty-last s [] (s .state .last) (λ e. z (sym (h .last) ∙ e))) (record { answer = refl; taken = refl; next = refl; text = put-none out at; plain = λ e. from-no cc; again = λ _. sym (h .last) })
 
 -- the end of a line whose command was made in place
 module _ (s : Session) (line₀ : List ℕ) (len : ℕ) (q : s .line ≡ take len line₀) (k : length line₀ ≡ 128) (line : List ℕ) (n : ℕ) (made : take n line ≡ canonical (take (min len 128) line₀)) where
@@ -61,10 +60,10 @@ module _ (s : Session) (line₀ : List ℕ) (len : ℕ) (q : s .line ≡ take le
   end-empty z = let none : take n line ≡ [] = rw z in line-empty s [] (canonical (s .line)) (ap length (sym command ∙ none))
 
   pub end-command : length line ≡ 128 → (n ≡ 0 → ⊥) → (out : List ℕ) (at : ℕ) (a : ByteAnswer) (p : Phase) → byteAnswer a ≡ result p → p ≡ commandPhase (take n line) →
-      Does (lineEnd s [] (canonical (s .line))) (s .state) line out at (record { answer = a; turn = record { phase = p; len = n }; at = at; repeat = false }) out
+      Does (lineEnd s [] (canonical (s .line))) (s .state) line out at (record { answer = a; turn = record { phase = p; len = n }; taken = 1; at = at; repeat = false }) out
   end-command j some out at a p e c =
       let says = ap (lineEnd s []) (sym command) ∙ line-command s [] (take n line) (λ e. some (omega (arith, length-take n line))) in
-      rw (says, ← c) (record { answer = e; next = refl; text = put-none out at; plain = λ _. refl; again = λ e. from-no cc })
+      rw (says, ← c) (record { answer = e; taken = refl; next = refl; text = put-none out at; plain = λ _. refl; again = λ e. from-no cc })
 
 -- a byte's number is found first: nothing is done where there is one
 module _ (t : Turn) (state : Settings) (line : List ℕ) (b : ℕ) {room free : ℕ} (a : ByteAnswer) {g : Bool}
@@ -72,11 +71,11 @@ module _ (t : Turn) (state : Settings) (line : List ℕ) (b : ℕ) {room free : 
   abbrev s : Session
   s = shown t state line
 
-  pub does-refuse : g ≡ false → (out : List ℕ) (at : ℕ) → Does (byteSays free s b) state line out at (record { answer = a; turn = t; at = at; repeat = false }) out
+  pub does-refuse : g ≡ false → (out : List ℕ) (at : ℕ) → Does (byteSays free s b) state line out at (record { answer = a; turn = t; taken = 0; at = at; repeat = false }) out
   does-refuse h out at =
       let z = numbered-off (byteNumber room s b) (ap goesOn (sym q) ∙ sym on ∙ h) in
       let n : byteAnswer a ≡ refused (byteNumber room s b) = q ∙ rw z in
-      rw (← e, says-refused room s b z) (record { answer = n; next = refl; text = put-none out at; plain = λ _. refl; again = λ e. from-no cc })
+      rw (← e, says-refused room s b z) (record { answer = n; taken = refl; next = refl; text = put-none out at; plain = λ _. refl; again = λ e. from-no cc })
 
   -- and where there is none, it is taken, its echo written
   module _ (h : g ≡ true) where
@@ -99,15 +98,15 @@ module _ (t : Turn) (state : Settings) (line : List ℕ) (b : ℕ) {room free : 
       pub take-cr : {r : Did} {line₁ left : List ℕ} → b ≡ 13 → Does (lineEnd s [] (canonical (s .line))) state line₁ o₁ end r left → Does (byteSays free s b) state line₁ out at r left
       take-cr c d = rw (says-taken free s b none, taken-cr s b c) (does-after echo d)
 
-      pub take-lf : b ≡ 10 → Does (byteSays free s b) state line out at (record { answer = a; turn = t; at = end; repeat = false }) o₁
-      take-lf c = rw (says-taken free s b none, taken-lf s b c) (record { answer = taken; next = refl; text = echo; plain = λ _. refl; again = λ e. from-no cc })
+      pub take-lf : b ≡ 10 → Does (byteSays free s b) state line out at (record { answer = a; turn = t; taken = 1; at = end; repeat = false }) o₁
+      take-lf c = rw (says-taken free s b none, taken-lf s b c) (record { answer = taken; taken = refl; next = refl; text = echo; plain = λ _. refl; again = λ e. from-no cc })
 
       pub take-plain : (b ≡ 13 → ⊥) → (b ≡ 10 → ⊥) → length line ≡ 128 →
-          Does (byteSays free s b) state (set line (t .len) b) out at (record { answer = a; turn = record { phase = phase.Reading; len = t .len + 1 }; at = end; repeat = false }) o₁
+          Does (byteSays free s b) state (set line (t .len) b) out at (record { answer = a; turn = record { phase = phase.Reading; len = t .len + 1 }; taken = 1; at = end; repeat = false }) o₁
       take-plain no-cr no-lf k =
           let joined : take (t .len + 1) (set line (t .len) b) ≡ take (t .len) line ++ (b ∷ []) = rw add-one (take-suc-set line (t .len) b (omega (arith, take-fits no-cr no-lf k))) in
           rw (says-taken free s b none, taken-plain s b no-cr no-lf)
-          (record { answer = taken; next = λ i. withLine s (joined i) phase.Reading; text = echo; plain = λ _. refl; again = λ e. from-no cc })
+          (record { answer = taken; taken = refl; next = λ i. withLine s (joined i) phase.Reading; text = echo; plain = λ _. refl; again = λ e. from-no cc })
 
 -- The session that a byte leaves: the last command goes into its line where it is repeated.
 
@@ -136,6 +135,6 @@ does-lent {d} {r = r} s h q e =
     let n = e ∙ q .next in
     λ i. record { answer = q .answer i; written = w i; next = n i; out = q .text .bytes i }
 
-pub serves-lent : {x : ServedBytes} {state : Settings} {line o : List ℕ} {r : Read} (s : ServerSession) → Serves x state line r o → session s ≡ left (r .did) state line →
-    bytesServed (record { answer = r .did .answer; taken = r .taken; written = r .did .at; session = s }) o ≡ x
-serves-lent {o = o} {r = r} s q e = (λ i. record { answer = byteAnswer (r .did .answer); taken = r .taken; written = r .did .at; next = e i; out = o }) ∙ q .served
+pub serves-lent : {x : ServedBytes} {state : Settings} {line o : List ℕ} {r : Did} (s : ServerSession) → Serves x state line r o → session s ≡ left r state line →
+    bytesServed (record { answer = r .answer; taken = r .taken; written = r .at; session = s }) o ≡ x
+serves-lent {o = o} {r = r} s q e = (λ i. record { answer = byteAnswer (r .answer); taken = r .taken; written = r .at; next = e i; out = o }) ∙ q .served

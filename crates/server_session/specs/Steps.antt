@@ -15,12 +15,10 @@ use Rattle.server_session.specs.declared.Phase.the-variants as phase
 use Rattle.server_session.specs.declared.Turn.{Turn}
 use Rattle.server_session.specs.declared.Flags.{Flags}
 use Rattle.server_session.specs.declared.Did.{Did}
-use Rattle.server_session.specs.declared.Read.{Read}
 use Rattle.server_session.specs.declared.Run.{Run}
-use Rattle.server_session.specs.declared.Wrote.{Wrote}
-use Rattle.server_session.specs.Session.{Session, isReading, Said, refusing, Served}
+use Rattle.server_session.specs.Session.{Session, isReading, Said, refusing}
 use Rattle.server_session.specs.Bytes.{byteAnswer, ServedBytes}
-use Rattle.server_session.specs.Replies.{serverAnswer, answered}
+use Rattle.server_session.specs.Replies.{answered}
 
 -- more bytes are looked at after this answer
 abbrev pub goesOn : Answer Phase → Bool
@@ -28,6 +26,11 @@ goesOn (result phase.Reading) = true
 goesOn (result phase.AtCommand) = false
 goesOn (result phase.ObdCommand) = false
 goesOn (refused n) = false
+
+-- how many bytes were taken, by the answer to one
+abbrev pub counted : Answer Phase → ℕ
+counted (result p) = 1
+counted (refused n) = 0
 
 -- the session of a turn, some settings and a line
 abbrev pub shown : Turn → Settings → List ℕ → Session
@@ -46,24 +49,20 @@ left d state line = record { state = state; line = cond (d .repeat) (state .last
 -- A byte that writes from a position of the out buffer on does what is said. Where the last command is repeated it is the line, and no more bytes are looked at.
 pub record Does (d : Said Phase) (state : Settings) (line out : List ℕ) (at : ℕ) (r : Did) (out₁ : List ℕ) : Type 0 where
   pub answer : byteAnswer (r .answer) ≡ d .answer
+  pub taken : r .taken ≡ counted (d .answer)
   pub next : left r state line ≡ d .next
   pub text : Put out at (d .text) (r .at) out₁
   pub plain : goesOn (byteAnswer (r .answer)) ≡ true → r .repeat ≡ false
   pub again : r .repeat ≡ true → r .turn .len ≡ length (state .last)
 
 -- Several bytes serve what is said.
-pub record Serves (x : ServedBytes) (state : Settings) (line : List ℕ) (r : Read) (out : List ℕ) : Type 0 where
-  pub served : record { answer = byteAnswer (r .did .answer); taken = r .taken; written = r .did .at; next = left (r .did) state line; out = out } ≡ x
-  pub again : r .did .repeat ≡ true → r .did .turn .len ≡ length (state .last)
+pub record Serves (x : ServedBytes) (state : Settings) (line : List ℕ) (r : Did) (out : List ℕ) : Type 0 where
+  pub served : record { answer = byteAnswer (r .answer); taken = r .taken; written = r .at; next = left r state line; out = out } ≡ x
+  pub again : r .repeat ≡ true → r .turn .len ≡ length (state .last)
 
 -- the answer that a number alone gives
 abbrev pub numbered : ℕ → Answer Phase
 numbered n = cond (eqb n 0) (result phase.Reading) (refused n)
-
--- how many bytes were taken, by the answer to one
-abbrev pub counted : Answer Phase → ℕ
-counted (result p) = 1
-counted (refused n) = 0
 
 -- a byte that does not just join the line: 80 or more, CR or LF
 unfoldable pub isSpecial : ℕ → Bool
@@ -111,24 +110,6 @@ unlessRefused (refused n) s d = refusing n s
 abbrev pub rejected : Session → List ℕ → Said (Unit {0})
 rejected s text = answered (s .state) (chipReply (s .state .linefeeds) (text ∷ []))
 
--- a session by its phase and the settings that a reply goes by
-abbrev pub replying : Phase → Bool → Bool → Bool → Bool → List ℕ → List ℕ → Session
-replying p echo linefeeds spaces headers last line = record {
-  state = record { echo = echo; linefeeds = linefeeds; spaces = spaces; headers = headers; last = last };
-  line = line;
-  phase = p;
-}
-
 -- the settings after a reply with a line list of some bytes
 abbrev pub keptAfter : ℕ → Session → Settings
 keptAfter n s = cond (eqb n 0) (s .state) (withLast (s .state) (s .line))
-
--- what was written serves what is said
-abbrev pub wroteServed : Session → List ℕ → Wrote → List ℕ → Served (Unit {0})
-wroteServed s list w out =
-    record {
-      answer = serverAnswer (w .answer);
-      written = w .written;
-      next = unlessRefused (serverAnswer (w .answer)) s (answered (keptAfter (length list) s) []) .next;
-      out = out;
-    }

@@ -14,7 +14,7 @@ ghost use Rattle.wire.specs.Put.{Put};
 ghost use Rattle.client_state.specs.Settings.{Settings};
 ghost use Rattle.server_session.specs.Session.{Session, session, freshSession, isReading, lent};
 ghost use Rattle.server_session.specs.Bytes.{canonical, byteNumber, commandPhase, emptyLine, lineEnd, byteTaken, byteSays, byteAnswer, byteServed, bytesSay, bytesServed, lentBytes};
-ghost use Rattle.server_session.specs.Steps.{Does, numbered, goesOn, counted, isSpecial, Shows, shown, Serves, RunFits, RanTo, Joins};
+ghost use Rattle.server_session.specs.Steps.{Does, numbered, goesOn, isSpecial, Shows, shown, Serves, RunFits, RanTo, Joins};
 
 // Who speaks next.
 pub enum Phase {
@@ -101,18 +101,14 @@ struct Flags {
     last: usize,
 }
 
-// What a byte did: the answer, the turn then, the position in out after what is sent, and whether the last command is to be put into the line.
+// What bytes did: the answer to the last one that was looked at, the turn then, how many were taken, the position in out after what is sent, and whether the
+// last command is to be put into the line.
 struct Did {
     answer: ByteAnswer,
     turn: Turn,
+    taken: usize,
     at: usize,
     repeat: bool,
-}
-
-// What several bytes did: the last one that was looked at, and how many were taken.
-struct Read {
-    did: Did,
-    taken: usize,
 }
 
 // A run of bytes that joined the line: where it ends in the line, in the input, and in out with what was sent back.
@@ -120,12 +116,6 @@ struct Run {
     len: usize,
     next: usize,
     at: usize,
-}
-
-// What a reply wrote, or the number that it got.
-struct Wrote {
-    answer: ServerAnswer,
-    written: usize,
 }
 
 fn is_reading(phase: Phase) -> bool
@@ -155,16 +145,6 @@ fn goes_on(answer: ByteAnswer) -> bool
     match answer {
         ByteAnswer::Taken => true,
         _ => false,
-    }
-}
-
-// How many bytes were taken, by the answer to one.
-fn counts(answer: ByteAnswer) -> usize
-    ensures { λ r. ⌜ r ≡ counted (byteAnswer answer) ⌝ }
-{
-    match answer {
-        ByteAnswer::Taken | ByteAnswer::AtCommand | ByteAnswer::ObdCommand => 1,
-        _ => 0,
     }
 }
 
@@ -365,6 +345,7 @@ fn end_empty(flags: Flags, out: &mut [u8], at: usize) -> Did
         return Did {
             answer: ByteAnswer::Taken,
             turn,
+            taken: 1,
             at: end,
             repeat: false,
         };
@@ -376,6 +357,7 @@ fn end_empty(flags: Flags, out: &mut [u8], at: usize) -> Did
     Did {
         answer: ByteAnswer::ObdCommand,
         turn,
+        taken: 1,
         at,
         repeat: true,
     }
@@ -397,6 +379,7 @@ fn end_line(line: &mut [u8; 128], len: usize, flags: Flags, out: &mut [u8], at: 
     Did {
         answer: phase_answer(phase),
         turn,
+        taken: 1,
         at,
         repeat: false,
     }
@@ -421,6 +404,7 @@ fn take_byte(
         return Did {
             answer,
             turn,
+            taken: 0,
             at,
             repeat: false,
         };
@@ -433,6 +417,7 @@ fn take_byte(
         return Did {
             answer,
             turn,
+            taken: 1,
             at: end,
             repeat: false,
         };
@@ -446,6 +431,7 @@ fn take_byte(
     Did {
         answer,
         turn,
+        taken: 1,
         at: end,
         repeat: false,
     }
@@ -453,7 +439,7 @@ fn take_byte(
 
 // Bytes one after the other, up to the one that hands a command out, or to the one that gets a number. A run of bytes that just join the line is taken without
 // a call for each.
-fn take_bytes(line: &mut [u8; 128], turn: Turn, flags: Flags, input: &[u8], out: &mut [u8]) -> Read
+fn take_bytes(line: &mut [u8; 128], turn: Turn, flags: Flags, input: &[u8], out: &mut [u8]) -> Did
     requires { ⌜ length (now line) ≡ 128 ⌝ }
     ensures { λ r. ⌜ ((state : Settings) → Shows state flags →
         Serves (lentBytes (bytesSay (length (now (out .entry))) (shown turn state (now (line .entry))) (now (input .entry))) (now (out .entry))) state (now (line .exit)) r (now (out .exit))) ⌝ }
@@ -467,25 +453,20 @@ fn take_bytes(line: &mut [u8; 128], turn: Turn, flags: Flags, input: &[u8], out:
         turn.len = ran.len;
         if input.len() <= ran.next {
             let phase = turn.phase;
-            let did = Did {
+            return Did {
                 answer: phase_answer(phase),
                 turn,
+                taken: ran.next,
                 at: ran.at,
                 repeat: false,
             };
-            return Read {
-                did,
-                taken: ran.next,
-            };
         }
         i = ran.next;
-        let did = take_byte(line, turn, flags, input[i], out, ran.at);
+        let mut did = take_byte(line, turn, flags, input[i], out, ran.at);
         let answer = did.answer;
         if !goes_on(answer) {
-            return Read {
-                did,
-                taken: i + counts(answer),
-            };
+            did.taken = i + did.taken;
+            return did;
         }
         turn = did.turn;
         at = did.at;
@@ -554,8 +535,7 @@ impl ServerSession {
             self.state.linefeeds_enabled,
             self.state.last_len,
         );
-        let read = take_bytes(&mut self.line, turn, flags, input, out);
-        let did = read.did;
+        let did = take_bytes(&mut self.line, turn, flags, input, out);
         if did.repeat {
             let last = self.state.last_obd_command;
             self.line = last;
@@ -565,7 +545,7 @@ impl ServerSession {
         let answer = did.answer;
         BytesStep {
             answer,
-            taken: read.taken,
+            taken: did.taken,
             written: did.at,
             session: self,
         }

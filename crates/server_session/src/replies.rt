@@ -4,7 +4,6 @@ use crate::ReplyStep;
 use crate::ServerAnswer;
 use crate::ServerSession;
 use crate::Turn;
-use crate::Wrote;
 use at_command::AtHandled;
 use client_state::ClientState;
 use reply::ReplyAnswer;
@@ -18,7 +17,7 @@ ghost use Rattle.reply.specs.Shape.{chipReply};
 ghost use Rattle.at_command.specs.Dialect.{atKind, kindSettings};
 ghost use Rattle.server_session.specs.Session.{Session, session, lent};
 ghost use Rattle.server_session.specs.Replies.{isAt, isObd, serverAnswer, answerSays, atAnswered, replySays, rejectSays, replyServed};
-ghost use Rattle.server_session.specs.Steps.{isSent, unlessRefused, rejected, replying, wroteServed};
+ghost use Rattle.server_session.specs.Steps.{isSent, unlessRefused, rejected};
 
 // Whether an AT command is handed out.
 fn is_at(phase: Phase) -> bool
@@ -107,43 +106,6 @@ fn reject_refusal(turn: Turn, text: &[u8], linefeeds: bool, room: usize) -> Serv
     ServerAnswer::Sent
 }
 
-// The reply to a line list at the front of out, if an OBD command is handed out.
-fn write_lines(
-    turn: Turn,
-    list: &[u8],
-    linefeeds: bool,
-    spaces: bool,
-    headers: bool,
-    out: &mut [u8],
-) -> Wrote
-    ensures { λ r. ⌜ ((echo : Bool) (last line : List ℕ) →
-        let s = replying (turn .phase) echo linefeeds spaces headers last line in
-        wroteServed s (now (list .entry)) r (now (out .exit)) ≡ lent (replySays (length (now (out .entry))) s (now (list .entry))) (now (out .entry))) ⌝ }
-{
-    let phase = turn.phase;
-    if !is_obd(phase) {
-        return Wrote {
-            answer: ServerAnswer::OutOfTurn,
-            written: 0,
-        };
-    }
-    let answer = reply::write_reply(list, linefeeds, spaces, headers, out);
-    match answer {
-        ReplyAnswer::Malformed => Wrote {
-            answer: ServerAnswer::Malformed,
-            written: 0,
-        },
-        ReplyAnswer::SmallBuffer => Wrote {
-            answer: ServerAnswer::SmallBuffer,
-            written: 0,
-        },
-        ReplyAnswer::Written(written) => Wrote {
-            answer: ServerAnswer::Sent,
-            written,
-        },
-    }
-}
-
 // The settings after the AT command that the first size bytes of a line are, and what it is.
 fn handled(state: ClientState, line: &[u8], size: usize) -> AtHandled
     requires { ⌜ size ≤ length (now line) ⌝ }
@@ -223,29 +185,31 @@ impl ServerSession {
     pub fn reply(mut self, list: &[u8], out: &mut [u8]) -> ReplyStep
         ensures { λ r. ⌜ replyServed r (now (out .exit)) ≡ lent (replySays (length (now (out .entry))) (session self) (now (list .entry))) (now (out .entry)) ⌝ }
     {
-        let wrote = write_lines(
-            self.turn,
+        let turn = self.turn;
+        let phase = turn.phase;
+        if !is_obd(phase) {
+            return self.refused(ServerAnswer::OutOfTurn);
+        }
+        let answer = reply::write_reply(
             list,
             self.state.linefeeds_enabled,
             self.state.spaces_enabled,
             self.state.headers_enabled,
             out,
         );
-        let answer = wrote.answer;
-        if !is_sent(answer) {
-            return ReplyStep {
-                answer,
-                written: wrote.written,
-                session: self,
-            };
+        match answer {
+            ReplyAnswer::Malformed => self.refused(ServerAnswer::Malformed),
+            ReplyAnswer::SmallBuffer => self.refused(ServerAnswer::SmallBuffer),
+            ReplyAnswer::Written(written) => {
+                if list.len() == 0 {
+                    return self.answered(written);
+                }
+                let size = wire::at_most(turn.len, 128);
+                let state = kept(self.state, &self.line, size);
+                self.state = state;
+                self.answered(written)
+            }
         }
-        if list.len() == 0 {
-            return self.answered(wrote.written);
-        }
-        let size = wire::at_most(self.turn.len, 128);
-        let state = kept(self.state, &self.line, size);
-        self.state = state;
-        self.answered(wrote.written)
     }
 
     // Rejects the OBD command that is handed out with a line of text, as `?` or UNABLE TO CONNECT.

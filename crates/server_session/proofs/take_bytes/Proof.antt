@@ -6,16 +6,15 @@ use Prim.Native.Nat.{ℕ, _+_, _-_, _≤_, _<_}
 use native.Mathlib.Omega.{arith}
 use native.Mathlib.Nat.{sub-zero}
 use lib.ListN.{length, drop}
-use borrow.Author.Tests.{not-true, not-false}
 use borrow.Author.Needs.{needs}
+use borrow.Author.Tests.{not-true, not-false}
 use Rattle.wire.proofs.PutLaws.{put-length}
 use Rattle.client_state.specs.Settings.{Settings}
 use Rattle.server_session.specs.Bytes.{bytesSay, lentBytes, byteAnswer}
 use Rattle.server_session.specs.Steps.{Shows, shown, goesOn}
 use Rattle.server_session.specs.declared.Flags.{Flags}
 use Rattle.server_session.specs.declared.Turn.{Turn}
-use Rattle.server_session.proofs.BytesLaws.{counted-most}
-use Rattle.server_session.proofs.RunLaws.{servedFrom, from-start, Leads, someSettings, some-shows, run-turn, byte-turn, byte-stop, bytes-end, serves-same}
+use Rattle.server_session.proofs.RunLaws.{servedFrom, from-start, Leads, someSettings, some-shows, run-turn, byte-turn, byte-stop, bytes-end, serves-same, one-most}
 use Rattle.server_session.proofs.take_bytes.Statement.{statement}
 use Rattle.server_session.proofs.take_bytes.Tie as tie
 
@@ -100,17 +99,14 @@ take-byte-requires c κs = c .before .before .before .before .before .before .be
 goes-on-requires : tie.Need-goes-on-requires Inv-loop μ-loop
 goes-on-requires c κs = search needs
 
-counts-requires : tie.Need-counts-requires Inv-loop μ-loop
-counts-requires c κs = search needs
-
-add-t27 : tie.Need-add-t27 Inv-loop μ-loop
-add-t27 c = omega (arith, c .before .before .before .before .before .before .before .before .before .if1 .left, c .before .before .before .before .before .before .before .before .before .before .before .before .before .before .before .before .before .before .before .good .1 .1 .1 .0 .0, c .counts .ensures, counted-most (byteAnswer (c .before .before .before .before .before .take-byte .result .answer)))
+add-did : tie.Need-add-did Inv-loop μ-loop
+add-did c = omega (arith, c .before .before .before .before .before .before .before .before .before .if1 .left, c .before .before .before .before .before .before .before .before .before .before .before .before .before .before .before .before .before .before .before .good .1 .1 .1 .0 .0, one-most (called (c .before .before) .take-byte .ensures .0 _ (some-shows (told (ran (c .before .before))))))
 
 same-length-2 : tie.Need-same-length-2 Inv-loop μ-loop
 same-length-2 c = let k = c .before .before in put-length (called k .take-byte .ensures .0 _ (some-shows (told (ran k))) .text) ∙ ran-on (ran k) .same ∙ head (ran k) .loop .inv .2
 
 returns-2 : tie.Need-returns-2 Inv-loop μ-loop
-returns-2 c = let k = c .before .before in (λ state h. serves-same (run-turned (ran k) state h .says ∙ head (ran k) .loop .inv .4 state h) (byte-stop (joined (ran k)) state (held (ran k)) (given (ran k)) (sent (ran k)) _ _ (called k .take-byte .result) (called k .take-byte .last .0) (called k .take-byte .last .1 .1 .1 .1 .0) (ran-on (ran k) .inside) (here k) (called k .take-byte .ensures .0 state h) (c .counts .ensures) (sym (c .before .before .goes-on .ensures) ∙ not-true _ (c .before .if2 .taken))), called k .take-byte .ensures .1)
+returns-2 c = let k = c .before .before in (λ state h. serves-same (run-turned (ran k) state h .says ∙ head (ran k) .loop .inv .4 state h) (byte-stop (joined (ran k)) state (held (ran k)) (given (ran k)) (sent (ran k)) _ _ (called k .take-byte .result) (called k .take-byte .last .0) (called k .take-byte .last .1 .1 .1 .1 .0) (ran-on (ran k) .inside) (here k) (called k .take-byte .ensures .0 state h) (sym (c .before .before .goes-on .ensures) ∙ not-true _ (c .before .if2 .taken))), called k .take-byte .ensures .1)
 
 add-i : tie.Need-add-i Inv-loop μ-loop
 add-i c = omega (arith, c .before .before .before .before .before .before .before .before .before .if1 .left, c .before .before .before .before .before .before .before .before .before .before .before .before .before .before .before .before .before .before .before .good .1 .1 .1 .0 .0)
@@ -135,8 +131,7 @@ take-bytes-spec =
     shared-slice-read-take-byte
     take-byte-requires
     goes-on-requires
-    counts-requires
-    add-t27
+    add-did
     same-length-2
     returns-2
     add-i
