@@ -8,7 +8,7 @@ use Rattle.bench.proofs.turns.back.Tie as tie
 
 -- a query's text has a place for 18 bytes
 short : (s : tie.Start) → length (s .args .session .query .bytes) ≡ 18
-short s = search needs
+short s = search (needs, s .good .0 .1 .1 .1 .1)
 
 deliver-requires : tie.Need-deliver-requires
 deliver-requires c κs = search needs
