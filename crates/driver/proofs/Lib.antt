@@ -1,3 +1,0 @@
-mod LogLaws
-mod ScriptLaws
-mod CallLaws
