@@ -1,4 +1,1 @@
-mod LogLaws
-mod ScriptLaws
-mod CallLaws
 mod Worked

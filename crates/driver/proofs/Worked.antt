@@ -25,10 +25,10 @@ use Rattle.client_session.specs.Session.{freshClient}
 use Rattle.client_session.specs.Start.{queryPidsSays}
 use Rattle.client_session.specs.Piece.{replyTakes, pieceSays}
 use Rattle.client_session.specs.Finish.{finishSays}
-use Rattle.driver.specs.Log.{loggedOf, loggedAs}
-use Rattle.driver.specs.Script.{calls}
-use Rattle.driver.specs.Server.{serverAt, serverRun}
-use Rattle.driver.specs.Client.{clientAt, clientRun, storedOf, storedAs}
+use Rattle.driver_log.specs.Log.{loggedOf, loggedAs}
+use Rattle.driver_log.specs.Script.{calls}
+use Rattle.driver_server.specs.Server.{serverAt, serverRun}
+use Rattle.driver_client.specs.Client.{clientAt, clientRun, storedOf, storedAs}
 
 -- AT@1 answered with `box`, 010D replied to, and the state
 abbrev serverCalls : List ℕ

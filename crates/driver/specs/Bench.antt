@@ -5,7 +5,7 @@ use Prim.Native.Nat.{ℕ}
 use lib.ListN.{length}
 use Rattle.wire.specs.Answer.{Answer, result, refused}
 use Rattle.bench.specs.Run.{Recorded, runSays, lent}
-use Rattle.driver.specs.Log.{Turn, answered, Logged, loggedOf}
+use Rattle.driver_log.specs.Log.{Turn, answered, Logged, loggedOf}
 
 -- a number of document 01 as itself, and a run through all queries as 64
 abbrev pub runCode : Answer (Unit {0}) → ℕ

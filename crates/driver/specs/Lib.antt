@@ -1,5 +1,1 @@
-pub mod Log
-pub mod Script
-pub mod Server
-pub mod Client
 pub mod Bench

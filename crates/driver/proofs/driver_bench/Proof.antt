@@ -1,9 +1,9 @@
 -- `driver::driver_bench` meets its contract.
 use mathlib.Core.Path.{ap, _∙_}
 use borrow.Author.Needs.{needs}
-use Rattle.driver.specs.Log.{loggedOf}
+use Rattle.driver_log.specs.Log.{loggedOf}
 use Rattle.driver.specs.Bench.{runNoted}
-use Rattle.driver.proofs.LogLaws.{answered-is}
+use Rattle.driver_log.proofs.LogLaws.{answered-is}
 use Rattle.driver.proofs.driver_bench.Statement.{statement}
 use Rattle.driver.proofs.driver_bench.Tie as tie
 

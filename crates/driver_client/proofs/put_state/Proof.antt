@@ -1,0 +1,62 @@
+-- `driver_client::put_state` meets its contract.
+use Rattle.wire.proofs.PutLaws.{put-then}
+use borrow.Author.Needs.{needs}
+use Rattle.driver_client.proofs.put_state.Statement.{statement}
+use Rattle.driver_client.proofs.put_state.Tie as tie
+
+framing-requires : tie.Need-framing-requires
+framing-requires c κs = search needs
+
+flag-requires : tie.Need-flag-requires
+flag-requires c κs = search needs
+
+repeat-requires : tie.Need-repeat-requires
+repeat-requires c κs = search needs
+
+support-code-requires : tie.Need-support-code-requires
+support-code-requires c κs = search needs
+
+multi-pid-requires : tie.Need-multi-pid-requires
+multi-pid-requires c κs = search needs
+
+support-code-requires-2 : tie.Need-support-code-requires-2
+support-code-requires-2 c κs = search needs
+
+under-code-requires : tie.Need-under-code-requires
+under-code-requires c κs = search needs
+
+slice-aggregate-put : tie.Need-slice-aggregate-put
+slice-aggregate-put c = search needs
+
+put-requires : tie.Need-put-requires
+put-requires c κs = search needs
+
+put-last-requires : tie.Need-put-last-requires
+put-last-requires c κs = search needs
+
+put-pids-requires : tie.Need-put-pids-requires
+put-pids-requires c κs = search needs
+
+same-length : tie.Need-same-length
+same-length c = search needs
+
+returns : tie.Need-returns
+returns c = rw (← c .before .before .before .before .before .before .before .before .before .before .before .before .before .before .before .before .before .before .before .framing .ensures, ← c .before .before .before .before .before .before .before .before .before .before .before .before .before .before .before .before .before .before .flag .ensures, ← c .before .before .before .before .before .before .before .before .before .before .before .before .before .before .before .before .before .repeat .ensures, ← c .before .before .before .before .before .before .before .before .before .before .before .before .before .before .before .before .support-code .ensures, ← c .before .before .before .before .before .before .before .before .before .before .before .before .before .before .before .multi-pid .ensures, ← c .before .before .before .before .before .before .before .before .before .before .before .before .before .before .support-code2 .ensures, ← c .before .before .before .before .before .before .before .before .before .before .before .before .before .under-code .ensures) (put-then (c .before .before .before .before .before .before .before .before .before .before .put .ensures) (put-then (c .before .before .before .before .before .before .put-last .ensures) (c .before .before .put-pids .ensures)))
+
+pub put-state-spec : {M : Type 1} → statement M
+put-state-spec =
+    tie.close
+    (tie.spec
+    framing-requires
+    flag-requires
+    repeat-requires
+    support-code-requires
+    multi-pid-requires
+    support-code-requires-2
+    under-code-requires
+    slice-aggregate-put
+    put-requires
+    put-last-requires
+    put-pids-requires
+    same-length
+    returns)

@@ -1,0 +1,146 @@
+-- Scripts on a client session: each call is what the session's own definition says of it.
+use mathlib.Core.Bool.{true, false, cond}
+use mathlib.Core.List.{List, [], _∷_, _++_}
+use mathlib.Core.Option.{Option, none, some}
+use Prim.Native.Nat.{ℕ, suc}
+use lib.Dec.{eqb}
+use lib.ListN.{length, take, drop, getD}
+use Rattle.wire.specs.Answer.{Answer, result, refused}
+use Rattle.pid.specs.Lengths.{lengthIn}
+use Rattle.server_state.specs.declared.FeatureSupport.{FeatureSupport}
+use Rattle.server_state.specs.declared.FeatureSupport.the-variants as support
+use Rattle.server_state.specs.State.{countIn}
+use Rattle.client_session.specs.declared.Under.{Under}
+use Rattle.client_session.specs.declared.Under.the-variants as under
+use Rattle.client_session.specs.Session.{Client, client, Served, lent}
+use Rattle.client_session.specs.Start.{initSays, commandSays, queryPidSays, queryPidsSays}
+use Rattle.client_session.specs.Piece.{Progress, awaited, sent, over, complete, pieceLent, failureSays}
+use Rattle.client_session.specs.Finish.{finishSays}
+use Rattle.driver_client.specs.declared.ClientTurn.{ClientTurn}
+use Rattle.driver_log.specs.Log.{numberBytes, textEntry, flagByte, Turn, noted, answered, Logged, loggedOf}
+use Rattle.driver_log.specs.Script.{calls}
+
+-- a code for each answer: a number of document 01 as itself, a result as 64 and more
+abbrev pub startCode : Answer (Unit {0}) → ℕ
+startCode (result u) = 64
+startCode (refused n) = n
+
+abbrev pub pieceCode : Answer Progress → ℕ
+pieceCode (result awaited) = 64
+pieceCode (result sent) = 65
+pieceCode (result over) = 66
+pieceCode (result complete) = 67
+pieceCode (refused n) = n
+
+abbrev pub finishCode : Answer ℕ → ℕ
+finishCode (result n) = 64
+finishCode (refused n) = n
+
+-- how many values a finish gave
+abbrev pub finishCount : Answer ℕ → ℕ
+finishCount (result n) = n
+finishCount (refused n) = 0
+
+abbrev pub supportCode : FeatureSupport → ℕ
+supportCode support.Unknown = 0
+supportCode support.Yes = 1
+supportCode support.No = 2
+
+abbrev pub underCode : Under → ℕ
+underCode under.Nothing = 0
+underCode under.Reset = 1
+underCode (under.Setup k) = 2
+underCode (under.Raw e) = 3
+underCode under.Query = 4
+underCode under.Repeat = 5
+underCode under.Complete = 6
+
+-- a PID's length, 256 where it is unknown
+abbrev pub lengthNumber : Option ℕ → ℕ
+lengthNumber none = 256
+lengthNumber (some n) = n
+
+-- what is known of some PIDs: of each its length, and its count and 1, 0 where it is not learned
+abbrev pub pidsEntry : List ℕ → List ℕ → List ℕ → List ℕ
+pidsEntry lengths counts [] = []
+pidsEntry lengths counts (p ∷ pids) = (numberBytes (lengthNumber (lengthIn lengths p)) ++ numberBytes (countIn counts p)) ++ pidsEntry lengths counts pids
+
+-- a session's state: framing, repeat, multi-PID support, what is under way, the last query, and what is known of some PIDs
+abbrev pub stateEntry : Client → List ℕ → List ℕ
+stateEntry c pids =
+    let k = c .known in
+    (flagByte (k .framing) ∷ supportCode (k .repeat) ∷ supportCode (k .multi) ∷ underCode (c .under) ∷ []) ++
+    (textEntry (k .last) ++ pidsEntry (k .lengths) (k .counts) pids)
+
+-- A turn of a client session, with the store of its replies.
+pub record Stored : Type 0 where
+  pub turn : Turn Client
+  pub store : List ℕ
+
+-- a call as the host sees it is noted
+abbrev pub startNoted : Stored → Served (Unit {0}) → Stored
+startNoted t r = record { turn = answered (t .turn .at) (t .turn .log) (startCode (r .answer)) 0 (r .written) (r .next) (r .out); store = t .store }
+
+abbrev pub pieceNoted : Stored → Served Progress → List ℕ → Stored
+pieceNoted t r store = record { turn = answered (t .turn .at) (t .turn .log) (pieceCode (r .answer)) 0 (r .written) (r .next) (r .out); store = store }
+
+abbrev pub finishNoted : Stored → Served ℕ → Stored
+finishNoted t r = record {
+  turn = answered (t .turn .at) (t .turn .log) (finishCode (r .answer)) (finishCount (r .answer)) (r .written) (r .next) (r .out);
+  store = t .store;
+}
+
+abbrev pub shown : Stored → List ℕ → Stored
+shown t entry = record { turn = noted (t .turn .session) (t .turn .at) (t .turn .out) (t .turn .log) entry; store = t .store }
+
+-- the count that the second byte of an argument gives, as count and 1; none where there is no such byte
+abbrev pub countGiven : List ℕ → ℕ
+countGiven [] = 0
+countGiven (pid ∷ []) = 0
+countGiven (pid ∷ count ∷ s) = suc count
+
+-- the calls that are made more rarely: 6 is `init`, 7 `query_pids` with a count and then the PIDs, 8 `failure` of a read, 9 of a write; 10 shows the reply so far,
+-- and any other the state with the PIDs of the argument
+abbrev pub rareCall : Stored → ℕ → List ℕ → Stored
+rareCall t kind arg =
+    let c = t .turn .session in
+    let out = t .turn .out in
+    let room = length out in
+    cond (eqb kind 6) (startNoted t (lent (initSays room c) out))
+    (cond (eqb kind 7) (startNoted t (lent (queryPidsSays room c (drop 1 arg) (suc (getD arg 0 0))) out))
+    (cond (eqb kind 8) (pieceNoted t (lent (failureSays room c false) out) (t .store))
+    (cond (eqb kind 9) (pieceNoted t (lent (failureSays room c true) out) (t .store))
+    (cond (eqb kind 10) (shown t (textEntry (take (c .got) (t .store)))) (shown t (stateEntry c arg))))))
+
+-- a call by its kind: 1 is `command`, 2 `query_pid` with a PID and perhaps a count, 3 `query_pids` with no count, 4 `piece`, 5 `finish`
+abbrev pub clientCall : Stored → ℕ → List ℕ → Stored
+clientCall t kind arg =
+    let c = t .turn .session in
+    let out = t .turn .out in
+    let room = length out in
+    cond (eqb kind 1) (startNoted t (lent (commandSays room c arg) out))
+    (cond (eqb kind 2) (startNoted t (lent (queryPidSays room c (getD arg 0 0) (countGiven arg)) out))
+    (cond (eqb kind 3) (startNoted t (lent (queryPidsSays room c arg 0) out))
+    (cond (eqb kind 4) (let r = pieceLent c arg (t .store) out in pieceNoted t (r .served) (r .store))
+    (cond (eqb kind 5) (finishNoted t (lent (finishSays room c (t .store)) out)) (rareCall t kind arg)))))
+
+abbrev pub clientTurn : ClientTurn → List ℕ → List ℕ → List ℕ → Stored
+clientTurn r store out log = record { turn = record { session = client (r .session); at = r .at; out = out; log = log }; store = store }
+
+abbrev pub clientAt : Client → ℕ → List ℕ → List ℕ → List ℕ → Stored
+clientAt c at store out log = record { turn = record { session = c; at = at; out = out; log = log }; store = store }
+
+-- a script on a session, logged from the start of the log
+abbrev pub clientRun : List ℕ → Stored → Stored
+clientRun script t = calls clientCall (clientAt (t .turn .session) 0 (t .store) (t .turn .out) (t .turn .log)) script
+
+-- What a program sees of a run: what is logged, and the store.
+pub record LoggedStore : Type 0 where
+  pub logged : Logged
+  pub store : List ℕ
+
+abbrev pub storedOf : Stored → LoggedStore
+storedOf t = record { logged = loggedOf (t .turn); store = t .store }
+
+abbrev pub storedAs : ℕ → List ℕ → List ℕ → List ℕ → LoggedStore
+storedAs written store out log = record { logged = record { written = written; out = out; log = log }; store = store }
