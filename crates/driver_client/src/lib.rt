@@ -14,7 +14,6 @@ ghost use lib.ListN.{take, drop};
 ghost use Rattle.wire.specs.Put.{Put};
 ghost use Rattle.pid.specs.Lengths.{dataLength};
 ghost use Rattle.query.specs.Query.{countOf};
-ghost use Rattle.query_text.specs.Text.{text};
 ghost use Rattle.client_session.specs.Session.{client, freshClient};
 ghost use Rattle.client_session.specs.Start.{startAnswer};
 ghost use Rattle.client_session.specs.Piece.{pieceAnswer};
