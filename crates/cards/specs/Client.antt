@@ -76,8 +76,7 @@ held n = record {
   pids = 0x0C ∷ replicate 5 0;
   «pids_len» = 1;
   several = false;
-  under = under.Query;
-  got = n;
+  turn = record { under = under.Query; got = n };
 }
 
 abbrev pub inPieces : List (List ℕ)

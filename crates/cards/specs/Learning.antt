@@ -94,8 +94,7 @@ learning =
         pids = 0x0C ∷ replicate 5 0;
         «pids_len» = 1;
         several = false;
-        under = under.Nothing;
-        got = 0;
+        turn = record { under = under.Nothing; got = 0 };
       };
     }) (0x0C ∷ 0x00 ∷ 0x04 ∷ 0x41 ∷ 0x0C ∷ 0x1A ∷ 0xF8 ∷ 9 ∷ 9 ∷ [])) ∷
     []

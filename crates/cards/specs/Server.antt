@@ -44,8 +44,7 @@ held last l p = record {
     «last_len» = length (ascii last);
   };
   line = padded (ascii l);
-  len = length (ascii l);
-  phase = p;
+  turn = record { phase = p; len = length (ascii l) };
 }
 
 -- the session after a command line, and after its reply of one line
