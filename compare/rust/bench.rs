@@ -161,7 +161,11 @@ fn run_pair(queries: usize, usual: bool, lines: usize) -> Pair<'static> {
     let mut driver = Driver::silent();
     Pair {
         rust: Box::new(move |n| (0..n).for_each(|_| drop(black_box(case.through_the_rust(&mut Plan::default()))))),
-        rattle: Box::new(move |n| (0..n).for_each(|_| drop(black_box(driver.bench_in(same.repeat, &same.script, &same.pieces, same.room))))),
+        rattle: Box::new(move |n| {
+            for _ in 0..n {
+                black_box(driver.bench_in(same.repeat, &same.script, &same.pieces, same.room));
+            }
+        }),
     }
 }
 
