@@ -9,6 +9,7 @@ use lib.ListN.{length, take, length-append}
 use lib.Seq.{sets}
 use borrow.Author.Tests.{ltb-true, ltb-false}
 use Rattle.wire.specs.Answer.{refused}
+use Rattle.wire.specs.Call.{Said}
 use Rattle.wire.specs.Text.{ascii, has, high}
 use Rattle.wire.proofs.Cases.{by-test, or-none}
 use Rattle.wire.proofs.TextLaws.{has-append, high-append}
@@ -16,7 +17,7 @@ use Rattle.hex.specs.Digits.{hexDigit}
 use Rattle.line_list.specs.Lines.{Line}
 use Rattle.reply.specs.Reply.{replyText}
 use Rattle.reply.proofs.ByteLaws.{replyBody, reply-prompt, body-none, body-prompt}
-use Rattle.client_session.specs.Session.{Client, Said, withUnder}
+use Rattle.client_session.specs.Session.{Client, withUnder}
 use Rattle.client_session.specs.Piece.{Progress, completed, failing, replyIn, pieceSays, stored}
 use Rattle.client_session.specs.Pieces.{Fed, feedOn, fed, joined, Sized}
 use Rattle.client_session.proofs.PieceLaws.{takes-too-much, piece-joined}
@@ -58,7 +59,7 @@ module _ (room : ℕ) (c : Client) (store st p : List ℕ) (ps : List (List ℕ)
   rest : (st ++ p) ++ joined ps ≡ prompted body
   rest = append-assoc st p (joined ps) ∙ q
 
-  abbrev step : Said Progress → Fed
+  abbrev step : Said Client Progress → Fed
   step d = let s = stored (c .under) (d .answer) (c .got) p store in feedOn (d .answer) (record { said = d; store = s; left = ps }) (fed room (d .next) s ps)
 
   -- the first with which the reply is too long gets 8

@@ -7,6 +7,7 @@ use native.Mathlib.Omega.{arith}
 use lib.ListN.{length}
 use lib.Seq.{sets}
 use Rattle.wire.specs.Answer.{Answer, result, refused}
+use Rattle.wire.specs.Call.{Said, saying}
 use Rattle.wire.specs.Text.{same}
 use Rattle.wire.proofs.Cases.{by-test, from-no}
 use Rattle.wire.proofs.TextLaws.{same-true}
@@ -23,7 +24,7 @@ use Rattle.query.proofs.QueryLaws.{query-some}
 use Rattle.server_state.specs.State.{mayTry}
 use Rattle.client_session.specs.declared.Under.{Under}
 use Rattle.client_session.specs.declared.Under.the-variants as under
-use Rattle.client_session.specs.Session.{Known, Client, Said, saying}
+use Rattle.client_session.specs.Session.{Known, Client}
 use Rattle.server_session.specs.Session.{Session}
 use Rattle.client_session.specs.Start.{repeats, newQuery, queryStarted}
 use Rattle.client_session.specs.Piece.{Progress, complete, replyIn}
@@ -146,16 +147,16 @@ module _ (L : ℕ → ℕ) (pids : List ℕ) (count : ℕ) (l : Line) (ls : List
 
     module _ (c : Client) (store ks server : List ℕ) (m : Between L (record { client = c; store = store; server = quiet server; lengths = ks })) where
       -- what comes of a start
-      abbrev started : Said (Unit {0}) → Part
+      abbrev started : Said Client (Unit {0}) → Part
       started s = finished (run.asking (record { client = c; store = store; server = quiet server; lengths = ks }) s list)
 
-      abbrev Comes : Said (Unit {0}) → Type 0
+      abbrev Comes : Said Client (Unit {0}) → Type 0
       Comes s = (length reply ≤ 4096 → Gives L query (started s)) × (4096 < length reply → Fails query (started s))
 
-      abbrev inFull : Said (Unit {0})
+      abbrev inFull : Said Client (Unit {0})
       inFull = saying tt (replied.asks pids count (l ∷ ls) (c .known) under.Query) (text ++ (13 ∷ []))
 
-      abbrev byCR : Said (Unit {0})
+      abbrev byCR : Said Client (Unit {0})
       byCR = saying tt (replied.asks pids count (l ∷ ls) (c .known) under.Repeat) (13 ∷ [])
 
       abbrev held : List ℕ

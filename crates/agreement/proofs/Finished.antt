@@ -7,6 +7,7 @@ use native.Mathlib.Omega.{arith}
 use lib.ListN.{length, take, length-take}
 use borrow.Author.Tests.{le-ltb}
 use Rattle.wire.specs.Answer.{result}
+use Rattle.wire.specs.Call.{Said}
 use Rattle.wire.specs.Text.{high}
 use Rattle.wire.proofs.All.{Bytes}
 use Rattle.line_list.specs.Lines.{Line, AllFit}
@@ -20,7 +21,7 @@ use Rattle.reply_values.specs.Values.{valuesOf, answerOrder}
 use Rattle.reply_values.specs.Learn.{lengthsAfter}
 use Rattle.reply_values.proofs.SizeLaws.{reply-size}
 use Rattle.client_session.specs.declared.Under.the-variants as under
-use Rattle.client_session.specs.Session.{Client, Said}
+use Rattle.client_session.specs.Session.{Client}
 use Rattle.client_session.specs.Piece.{replyIn}
 use Rattle.client_session.specs.Finish.{isComplete, finished, finishSays}
 use Rattle.client_session.proofs.FinishLaws.{finish-low}
@@ -50,7 +51,7 @@ answer-reordered vs = record { count = refl; size = refl; pids = λ p. refl; fit
 abbrev pub lengthsThen : Client → List Line → List ℕ
 lengthsThen c ls = lengthsAfter (c .query .several) (c .query .pids) (c .known .lengths) ls
 
-abbrev pub finishedWith : Client → List Line → Said ℕ
+abbrev pub finishedWith : Client → List Line → Said Client ℕ
 finishedWith c ls = finished c (lengthsThen c ls) (valuesOf (lengthsThen c ls) ls)
 
 -- The query of a session c is over, and the next session n keeps what does not depend on the reply.
@@ -88,7 +89,7 @@ module _ (c : Client) (store : List ℕ) (turn : isComplete (c .under) ≡ true)
 -- ---- the reply to a run's lines
 
 -- A finish f of the query of a session c with the values vs, in a run with the lengths L.
-pub record Gave (L : ℕ → ℕ) (c : Client) (vs : List Value) (f : Said ℕ) : Type 0 where
+pub record Gave (L : ℕ → ℕ) (c : Client) (vs : List Value) (f : Said Client ℕ) : Type 0 where
   pub answer : f .answer ≡ result (length vs)
   pub text : f .text ≡ valuesBytes (answerOrder vs)
   pub over : Over c (f .next)

@@ -10,6 +10,7 @@ use lib.ListN.{length}
 use lib.Seq.{sets, length-sets}
 use borrow.Author.Tests.{ltb-true, ltb-false}
 use Rattle.wire.specs.Answer.{Answer, result, refused}
+use Rattle.wire.specs.Call.{Said}
 use Rattle.wire.specs.Text.{ascii, has, high}
 use Rattle.wire.proofs.All.{Bytes}
 use Rattle.wire.proofs.Cases.{by-test, from-no}
@@ -21,7 +22,7 @@ use Rattle.query.specs.Query.{queryText}
 use Rattle.server_state.specs.declared.FeatureSupport.the-variants as support
 use Rattle.client_session.specs.declared.Under.{Under}
 use Rattle.client_session.specs.declared.Under.the-variants as under
-use Rattle.client_session.specs.Session.{Known, Client, Said, withRepeat}
+use Rattle.client_session.specs.Session.{Known, Client, withRepeat}
 use Rattle.client_session.specs.Start.{repeats, newQuery, queryStarted}
 use Rattle.client_session.specs.Piece.{Progress, complete, replyIn}
 use Rattle.client_session.specs.Finish.{finishSays}
@@ -184,8 +185,8 @@ module _ (pids : List ℕ) (count : ℕ) (ls : List Line) (ok : Ready (record { 
       let s : startSays c pids count ≡ queryStarted 0 c q = replied.starts c pids count (rw free) (ok .some) (ok .few) in
       let b : Bench = record { client = c; store = store; server = quiet server; lengths = ks } in
       by-test (repeats (c .known) text)
-      (λ e. subst (λ (s : Said (Unit {0})). Goes (finished (run.asking b s list))) (sym (s ∙ query-repeated c q e)) (repeated (c .known) store ks size server short))
-      (λ e. subst (λ (s : Said (Unit {0})). Goes (finished (run.asking b s list))) (sym (s ∙ query-in-full c q e)) (fully (c .known) store ks size server short))
+      (λ e. subst (λ (s : Said Client (Unit {0})). Goes (finished (run.asking b s list))) (sym (s ∙ query-repeated c q e)) (repeated (c .known) store ks size server short))
+      (λ e. subst (λ (s : Said Client (Unit {0})). Goes (finished (run.asking b s list))) (sym (s ∙ query-in-full c q e)) (fully (c .known) store ks size server short))
 
 pub part-goes : (b : Bench) (q : Query) → Quiet b → Ready q → Goes (part b q)
 unfolding part

@@ -7,6 +7,7 @@ use native.Mathlib.Omega.{arith}
 use lib.ListN.{length, replicate, length-replicate}
 use lib.Seq.{sets, length-sets}
 use Rattle.wire.specs.Answer.{result}
+use Rattle.wire.specs.Call.{Said}
 use Rattle.wire.specs.Text.{ascii, has, high}
 use Rattle.pid.specs.Lengths.{mode01Lengths}
 use Rattle.server_state.specs.declared.FeatureSupport.the-variants as support
@@ -14,7 +15,7 @@ use Rattle.server_state.specs.State.{supportAtFirst}
 use Rattle.reply_lines.specs.Lines.{unspaced}
 use Rattle.server_session.specs.Session.{Session}
 use Rattle.client_session.specs.declared.Under.the-variants as under
-use Rattle.client_session.specs.Session.{Known, Said, freshClient, withFraming}
+use Rattle.client_session.specs.Session.{Client, Known, freshClient, withFraming}
 use Rattle.client_session.specs.Start.{initSays}
 use Rattle.client_session.specs.Piece.{Progress, sent, over, completed, pieceSays}
 use Rattle.client_session.proofs.PiecesLaws.{Awaiting, Plainly, prompted}
@@ -27,7 +28,7 @@ use Rattle.agreement.proofs.Arrive.{arrives}
 
 -- a command whose reply is plain, and ends with its prompt: the client comes out as it completes the whole reply
 module _ (b : Bench) (command list : List ℕ) (x : Exchanged) (body : List ℕ) where
-  abbrev pub settledReply : Said Progress
+  abbrev pub settledReply : Said Client Progress
   settledReply = completed (b .client .under) (b .client) (prompted body)
 
   abbrev pub settled : Turn

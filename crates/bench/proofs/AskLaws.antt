@@ -7,6 +7,7 @@ use lib.Dec.{ltb}
 use lib.ListN.{length, take, drop, getD}
 use borrow.Author.Tests.{ltb-false}
 use Rattle.wire.specs.Answer.{Answer, result, refused}
+use Rattle.wire.specs.Call.{Said, Served, lent}
 use Rattle.wire.specs.Text.{high}
 use Rattle.wire.proofs.Cases.{by-test}
 use Rattle.group.specs.Group.{groupBytes}
@@ -18,7 +19,7 @@ use Rattle.client_session.specs.declared.StartStep.{StartStep}
 use Rattle.client_session.specs.declared.PieceAnswer.{PieceAnswer}
 use Rattle.client_session.specs.declared.PieceAnswer.the-variants.{Awaited, Sent, Over, Complete, OutOfTurn, TooLong, SmallBuffer, Failed, TooMuch, NotAscii}
 use Rattle.client_session.specs.declared.FinishStep.{FinishStep}
-use Rattle.client_session.specs.Session.{Client, client, Said, Served, lent}
+use Rattle.client_session.specs.Session.{Client, client}
 use Rattle.client_session.specs.Start.{queryPidSays, queryPidsSays, startServed}
 use Rattle.client_session.specs.Piece.{Progress, awaited, sent, over, complete, pieceAnswer, replyIn}
 use Rattle.client_session.specs.Finish.{isComplete, finished as values-said, roomFor, finishReply, finishSays, finishAnswer, finishServed}
@@ -60,7 +61,7 @@ module _ (c : Client) (count : ℕ) where
 -- ---- the end
 
 -- the values fit
-room-fits : (room : ℕ) (c : Client) (d : Said ℕ) → length (roomFor room c d .text) ≤ room
+room-fits : (room : ℕ) (c : Client) (d : Said Client ℕ) → length (roomFor room c d .text) ≤ room
 room-fits room c d = by-test (ltb room (length (d .text))) (λ e. rw e (omega arith)) (λ e. rw e (ltb-false room (length (d .text)) e))
 
 reply-fits : (room : ℕ) (c : Client) (reply : List ℕ) → length (finishReply room c reply .text) ≤ room
@@ -119,7 +120,7 @@ reply-refused asked r n values store lengths size e number some =
 -- the reply got none: the query is finished by the step s
 module _ (asked : code-turn.Turn) (store values : List ℕ) (size : length values ≡ valuesRoom) (none : pieceNumber (asked .answer) ≡ 0) (s : FinishStep) (left : List ℕ)
     (e : finishServed s left ≡ lent (finishSays (length values) (client (asked .bench .client)) store) values) where
-  abbrev says : Said ℕ
+  abbrev says : Said Client ℕ
   says = finishSays valuesRoom (client (asked .bench .client)) store
 
   abbrev next : code.Bench
@@ -138,11 +139,11 @@ module _ (asked : code-turn.Turn) (store values : List ℕ) (size : length value
   text = lent-text says values (finishServed s left) does few
 
   answered : (a : Answer ℕ) → finishAnswer (s .answer) ≡ a → says .answer ≡ a
-  answered a k = sym (ap (λ (x : Served ℕ). x .answer) does) ∙ k
+  answered a k = sym (ap (λ (x : Served Client ℕ). x .answer) does) ∙ k
 
   same : (lengths : List ℕ) → benchOf next store lengths ≡ finishing (turnOf asked [] store lengths) (result complete) .bench
   same lengths =
-      let c = ap (λ (x : Served ℕ). x .next) does in
+      let c = ap (λ (x : Served Client ℕ). x .next) does in
       λ i. record { client = c i; store = store; server = benchOf (asked .bench) store lengths .server; lengths = benchOf (asked .bench) store lengths .lengths }
 
   -- its values are in the lent buffer
@@ -167,7 +168,7 @@ module _ (asked : code-turn.Turn) (store values : List ℕ) (size : length value
 -- ---- the query is asked
 
 -- what a start wrote
-module _ (s : Said (Unit {0})) (begun : StartStep) (out out₁ : List ℕ) (size : length out ≡ sendRoom) (few : length (s .text) ≤ sendRoom)
+module _ (s : Said Client (Unit {0})) (begun : StartStep) (out out₁ : List ℕ) (size : length out ≡ sendRoom) (few : length (s .text) ≤ sendRoom)
     (e : startServed begun out₁ ≡ lent s out) where
   pub start-text : take (begun .written) out₁ ≡ s .text
   start-text = lent-text s out (startServed begun out₁) e (omega arith)
@@ -183,7 +184,7 @@ module _ (s : Said (Unit {0})) (begun : StartStep) (out out₁ : List ℕ) (size
       Does (turn (benchOf (record { client = begun .session; server = b .server; used = b .used }) store lengths) (take (begun .written) out₁) list) first o₁ p₁ s₁ lengths →
       Does (onward 1 (turnOf first o₁ s₁ lengths) list) r o₂ p₂ s₂ lengths → Does (asking (benchOf b store lengths) s list) r o₂ p₂ s₂ lengths
   ask-does b first r list lengths store o₁ p₁ s₁ o₂ p₂ s₂ f d =
-      let next : client (begun .session) ≡ s .next = ap (λ (v : Served (Unit {0})). v .next) e in
+      let next : client (begun .session) ≡ s .next = ap (λ (v : Served Client (Unit {0})). v .next) e in
       let same : turn (benchOf (record { client = begun .session; server = b .server; used = b .used }) store lengths) (take (begun .written) out₁) list ≡
       turn (record { client = s .next; store = store; server = session (b .server); lengths = drop (b .used) lengths }) (s .text) list =
       λ i. turn (record { client = next i; store = store; server = session (b .server); lengths = drop (b .used) lengths }) (start-text i) list in

@@ -5,12 +5,13 @@ use mathlib.Core.List.{List, []}
 use Prim.Native.Nat.{ℕ, _≤_}
 use native.Mathlib.Omega.{arith}
 use lib.ListN.{length, take}
+use Rattle.wire.specs.Call.{Said, Served, lent}
 use Rattle.server_session.specs.declared.ServerSession.{ServerSession}
 use Rattle.server_session.specs.Session.{session, freshSession}
 use Rattle.client_session.specs.declared.ClientSession.{ClientSession}
 use Rattle.client_session.specs.declared.StartStep.{StartStep}
 use Rattle.client_session.specs.declared.PieceStep.{PieceStep}
-use Rattle.client_session.specs.Session.{client, freshClient, Said, Served, lent}
+use Rattle.client_session.specs.Session.{Client, client, freshClient}
 use Rattle.client_session.specs.Start.{initSays, startServed}
 use Rattle.client_session.specs.Piece.{Progress, pieceSays, Received, pieceReceived, pieceLent, receiving}
 use Rattle.client_session.proofs.StartLaws.{init-starts, init-fits}
@@ -28,7 +29,7 @@ use Rattle.bench.proofs.OnwardLaws.{held-does, held-then, does-held, on
 -- ATZ goes out
 module _ (repeat : Bool) (out out₁ : List ℕ) (fresh : ClientSession) (i : StartStep) (size : length out ≡ sendRoom) (new : client fresh ≡ freshClient true repeat)
     (e : startServed i out₁ ≡ lent (initSays (length out) (client fresh)) out) where
-  abbrev starts : Said (Unit {0})
+  abbrev starts : Said Client (Unit {0})
   starts = initSays sendRoom (freshClient true repeat)
 
   started : startServed i out₁ ≡ lent starts out
@@ -47,7 +48,7 @@ module _ (repeat : Bool) (out out₁ : List ℕ) (fresh : ClientSession) (i : St
   same-size = start-size starts i out out₁ size start-fits started
 
   next : client (i .session) ≡ starts .next
-  next = ap (λ (v : Served (Unit {0})). v .next) started
+  next = ap (λ (v : Served Client (Unit {0})). v .next) started
 
   -- the server's echo and answer to it are one piece
   module _ (reply reply₁ store out₂ store₁ : List ℕ) (server : ServerSession) (x : ExchangeStep) (p : PieceStep) (large : length reply ≡ replyRoom)
@@ -63,7 +64,7 @@ module _ (repeat : Bool) (out out₁ : List ℕ) (fresh : ClientSession) (i : St
     sent : take (x .written) reply₁ ≡ exchanges .text
     sent = reply-text (session server) (take (i .written) out₁) [] reply reply₁ x heard ∙ ap (λ (v : Exchanged). v .text) exchanges-is
 
-    abbrev takes : Said Progress
+    abbrev takes : Said Client Progress
     takes = pieceSays sendRoom (starts .next) (exchanges .text) freshStore
 
     received : pieceReceived p out₂ store₁ ≡ receiving (starts .next) takes (exchanges .text) freshStore out₁
@@ -71,7 +72,7 @@ module _ (repeat : Bool) (out out₁ : List ℕ) (fresh : ClientSession) (i : St
 
     takes-fits : length (takes .text) ≤ length out₁
     takes-fits =
-        let none : starts .next .query .text ≡ [] = ap (λ (v : Said (Unit {0})). v .next .query .text) (init-starts sendRoom (freshClient true repeat) refl (omega arith)) in
+        let none : starts .next .query .text ≡ [] = ap (λ (v : Said Client (Unit {0})). v .next .query .text) (init-starts sendRoom (freshClient true repeat) refl (omega arith)) in
         omega (arith, same-size, piece-fits (starts .next) (exchanges .text) freshStore sendRoom (omega (arith, ap length none)))
 
     pub reset-does : (lengths : List ℕ) →

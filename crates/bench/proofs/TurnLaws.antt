@@ -5,13 +5,14 @@ use Prim.Native.Nat.{ℕ, _≤_}
 use native.Mathlib.Omega.{arith}
 use lib.ListN.{length, take, drop}
 use lib.Seq.{sets, take-all, length-sets}
+use Rattle.wire.specs.Call.{Said, Served, lent}
 use Rattle.wire.specs.Put.{Put}
 use Rattle.wire.proofs.PutLaws.{put-front}
 use Rattle.query_text.proofs.KeptLaws.{text-short}
 use Rattle.server_session.specs.declared.ServerSession.{ServerSession}
 use Rattle.server_session.specs.Session.{Session, session}
 use Rattle.client_session.specs.declared.ClientSession.{ClientSession}
-use Rattle.client_session.specs.Session.{client, Said, Served, lent}
+use Rattle.client_session.specs.Session.{Client, client}
 use Rattle.client_session.specs.Piece.{Progress}
 use Rattle.exchange.specs.declared.ExchangeStep.{ExchangeStep}
 use Rattle.exchange.specs.declared.Delivery.{Delivery}
@@ -32,16 +33,16 @@ front buffer text h =
     put-front put ∙ take-all (length buffer) text h
 
 -- so does what a call on the client says
-module _ {A : Type 0} (d : Said A) (out : List ℕ) (v : Served A) (e : v ≡ lent d out) where
+module _ {A : Type 0} (d : Said Client A) (out : List ℕ) (v : Served Client A) (e : v ≡ lent d out) where
   pub lent-length : length (v .out) ≡ length out
-  lent-length = ap (λ (x : Served A). length (x .out)) e ∙ length-sets out 0 (d .text)
+  lent-length = ap (λ (x : Served Client A). length (x .out)) e ∙ length-sets out 0 (d .text)
 
   module _ (fits : length (d .text) ≤ length out) where
     pub lent-text : take (v .written) (v .out) ≡ d .text
     lent-text = (λ i. take (e i .written) (e i .out)) ∙ front out (d .text) fits
 
     pub lent-inside : v .written ≤ length (v .out)
-    lent-inside = let w : v .written ≡ length (d .text) = ap (λ (x : Served A). x .written) e in omega (arith, fits, lent-length)
+    lent-inside = let w : v .written ≡ length (d .text) = ap (λ (x : Served Client A). x .written) e in omega (arith, fits, lent-length)
 
 -- what the server sent stands in its buffer
 module _ (s : Session) (command list reply reply₁ : List ℕ) (x : ExchangeStep) (e : exchangeServed x reply₁ ≡ exchange.lent (exchanged (length reply) s command list) reply) where
@@ -64,10 +65,10 @@ module _ (c : ClientSession) (short : length (c .query .bytes) ≡ 18) (server :
   said : deliveryReceived lengths d store₁ out₁ ≡ receiving (delivered sendRoom (client c) store ks r) out
   said = e ∙ ap (λ n. receiving (delivered n (client c) store ks r) out) size
 
-  abbrev says : Said Progress
+  abbrev says : Said Client Progress
   says = delivered sendRoom (client c) store ks r .said
 
-  abbrev served : Served Progress
+  abbrev served : Served Client Progress
   served = deliveryReceived lengths d store₁ out₁ .served
 
   does : served ≡ lent says out

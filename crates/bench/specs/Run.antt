@@ -10,10 +10,11 @@ use lib.Dec.{ltb}
 use lib.ListN.{length, replicate}
 use lib.Seq.{sets}
 use Rattle.wire.specs.Answer.{Answer, result, refused}
+use Rattle.wire.specs.Call.{Said}
 use Rattle.group.specs.Group.{groupBytes}
 use Rattle.line_list.specs.Lines.{linesBytes}
 use Rattle.server_session.specs.Session.{Session, freshSession}
-use Rattle.client_session.specs.Session.{Client, freshClient, Said}
+use Rattle.client_session.specs.Session.{Client, freshClient}
 use Rattle.client_session.specs.Start.{initSays, queryPidSays, queryPidsSays}
 use Rattle.client_session.specs.Piece.{Progress, awaited, sent, over, complete, pieceSays, stored}
 use Rattle.client_session.specs.Finish.{finishSays}
@@ -94,7 +95,7 @@ onward (suc n) t list = sending (t .answer) t (later (t .handed) (onward n (turn
 -- ---- the initialisation
 
 -- "the ATZ echo and answer arriving as one piece" (demand 3)
-abbrev pub reset : Said (Unit {0}) → Exchanged → List ℕ → Turn
+abbrev pub reset : Said Client (Unit {0}) → Exchanged → List ℕ → Turn
 reset i x lengths =
     let d = pieceSays sendRoom (i .next) (x .text) freshStore in
     record {
@@ -113,13 +114,13 @@ initialised repeat lengths =
 -- ---- a query
 
 -- "one PID through `query_pid`, more through `query_pids`"
-abbrev pub startSays : Client → List ℕ → ℕ → Said (Unit {0})
+abbrev pub startSays : Client → List ℕ → ℕ → Said Client (Unit {0})
 startSays c [] count = queryPidsSays sendRoom c [] count
 startSays c (p ∷ []) count = queryPidSays sendRoom c p count
 startSays c (p ∷ q ∷ ps) count = queryPidsSays sendRoom c (p ∷ q ∷ ps) count
 
 -- the query is started; a repeat that meets `?` is followed by the query in full
-abbrev pub asking : Bench → Said (Unit {0}) → List ℕ → Turn
+abbrev pub asking : Bench → Said Client (Unit {0}) → List ℕ → Turn
 asking b s list =
     onward 1 (turn (record { client = s .next; store = b .store; server = b .server; lengths = b .lengths }) (s .text) list) list
 
@@ -130,7 +131,7 @@ pub record Part : Type 0 where
   pub handed : List (List ℕ)
 
 -- "the number of values as a group number and the values"
-abbrev pub partOf : Said ℕ → Answer ℕ → Answer (List ℕ)
+abbrev pub partOf : Said Client ℕ → Answer ℕ → Answer (List ℕ)
 partOf f (refused n) = refused n
 partOf f (result n) = result (groupBytes n ++ f .text)
 

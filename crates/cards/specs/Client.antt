@@ -6,6 +6,7 @@ use Prim.Native.Nat.{ℕ, zero, suc}
 use Prim.Native.String.{String}
 use lib.ListN.{length, replicate}
 use Rattle.wire.specs.Answer.{Answer, result, refused}
+use Rattle.wire.specs.Call.{Said, lent}
 use Rattle.wire.specs.Text.{ascii}
 use Rattle.pid.specs.Lengths.{mode01Lengths}
 use Rattle.server_state.specs.declared.FeatureSupport.the-variants as support
@@ -15,7 +16,7 @@ use Rattle.client_session.specs.declared.ClientSession.{ClientSession}
 use Rattle.client_session.specs.declared.StartAnswer.the-variants as start
 use Rattle.client_session.specs.declared.PieceAnswer.the-variants as piece
 use Rattle.client_session.specs.declared.Failure.the-variants as failure
-use Rattle.client_session.specs.Session.{Client, freshClient, Said, lent, withUnder}
+use Rattle.client_session.specs.Session.{Client, freshClient, withUnder}
 use Rattle.client_session.specs.Start.{initSays, commandSays, queryPidSays, queryPidsSays, startAnswer, startServed}
 use Rattle.client_session.specs.Piece.{Progress, awaited, sent, over, complete, pieceSays, failureSays, pieceAnswer, isWrite, pieceReceived, pieceLent}
 use Rattle.client_session.specs.Pieces.{fed, joined}
@@ -30,17 +31,17 @@ abbrev pub new : Client
 new = freshClient true true
 
 -- a reply in one piece, and the session after it
-abbrev pub reply : Client → String → Said Progress
+abbrev pub reply : Client → String → Said Client Progress
 reply c t = pieceSays 80 c (ascii t) emptyStore
 
 -- `010C 1` asked, and the session when its reply was complete and finished
-abbrev asking : Said (Unit {0})
+abbrev asking : Said Client (Unit {0})
 asking = queryPidSays 80 new 0x0C 2
 
 abbrev asked : Client
 asked = withUnder (reply (asking .next) "410C1AF8\r\r>" .next) under.Nothing 0
 
-abbrev again : Said (Unit {0})
+abbrev again : Said Client (Unit {0})
 again = queryPidSays 80 asked 0x0C 2
 
 -- the initialisation, the session after n replies, and what goes out at each

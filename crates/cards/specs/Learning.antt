@@ -7,6 +7,7 @@ use Prim.Native.Nat.{ℕ}
 use Prim.Native.String.{String}
 use lib.ListN.{replicate, set}
 use Rattle.wire.specs.Answer.{Answer, result, refused}
+use Rattle.wire.specs.Call.{Said, lent}
 use Rattle.wire.specs.Text.{ascii}
 use Rattle.pid.specs.Lengths.{mode01Lengths, lengthIn}
 use Rattle.line_list.specs.Lines.{line}
@@ -18,7 +19,7 @@ use Rattle.server_state.specs.declared.FeatureSupport.the-variants as support
 use Rattle.server_state.specs.State.{countIn}
 use Rattle.client_session.specs.declared.Under.the-variants as under
 use Rattle.client_session.specs.declared.FinishAnswer.the-variants as finish
-use Rattle.client_session.specs.Session.{Client, Said, lent, withUnder}
+use Rattle.client_session.specs.Session.{Client, withUnder}
 use Rattle.client_session.specs.Start.{commandSays, queryPidSays, queryPidsSays}
 use Rattle.client_session.specs.Piece.{stored}
 use Rattle.client_session.specs.Finish.{finishSays, finishAnswer, finishServed}
@@ -30,10 +31,10 @@ abbrev framed : Client
 framed = reply (commandSays 80 new (ascii "ATH1") .next) "OK\r\r>" .next
 
 -- a query that was started gets a reply, and is finished with so much room for its values
-abbrev finishing : ℕ → Said (Unit {0}) → String → Said ℕ
+abbrev finishing : ℕ → Said Client (Unit {0}) → String → Said Client ℕ
 finishing room s t = finishSays room (reply (s .next) t .next) (stored (s .next .under) (reply (s .next) t .answer) 0 (ascii t) emptyStore)
 
-abbrev answering : Said (Unit {0}) → String → Said ℕ
+abbrev answering : Said Client (Unit {0}) → String → Said Client ℕ
 answering s t = finishing 100 s t
 
 -- the maker's own PID E0 from two ECUs, with one length or two
@@ -43,7 +44,7 @@ alike = "7E80541E0010203\r7E90541E0010203\r\r>"
 abbrev unlike : String
 unlike = "7E80441E00102\r7E90541E0010203\r\r>"
 
-abbrev bothEcus : Said ℕ
+abbrev bothEcus : Said Client ℕ
 bothEcus = answering (queryPidSays 80 framed 0xE0 0) alike
 
 -- a reply read for `query_pid` of E0, framed, with so much room

@@ -7,6 +7,7 @@ use lib.Dec.{ltb}
 use lib.ListN.{length, take}
 use lib.Seq.{sets, take-all}
 use Rattle.wire.specs.Answer.{result, refused}
+use Rattle.wire.specs.Call.{refusing, Served, lent}
 use borrow.Author.Tests.{lt-ltb, le-ltb}
 use Rattle.wire.specs.Text.{high}
 use Rattle.wire.proofs.Cases.{by-test, from-no}
@@ -18,7 +19,7 @@ use Rattle.reply_values.specs.Learn.{lengthsAfter, learnCounts, givenPids}
 use Rattle.reply_values.specs.Read.{Read, replyRead, readValues, readReply}
 use Rattle.reply_values.specs.declared.ReadAnswer.the-variants as read
 use Rattle.reply_values.specs.declared.ReplyRead.{ReplyRead}
-use Rattle.client_session.specs.Session.{Client, refusing, Served, lent}
+use Rattle.client_session.specs.Session.{Client}
 use Rattle.client_session.specs.Piece.{failing, replyIn}
 use Rattle.client_session.specs.Finish.{isComplete, taught, finishReply, finishSays}
 use Rattle.client_session.specs.Steps.{question, finishStored}
@@ -82,12 +83,12 @@ module _ (c : Client) (reply out : List ℕ) (short : length reply ≤ 4096) whe
 
     -- the values were longer than the buffer
     pub read-small : r .answer ≡ read.SmallBuffer →
-        _≡_ {A = Served ℕ} (record { answer = refused 6; written = 0; next = c; out = left }) (lent (finishReply (length out) c reply) out)
+        _≡_ {A = Served Client ℕ} (record { answer = refused 6; written = 0; next = c; out = left }) (lent (finishReply (length out) c reply) out)
     read-small e = let (same, says) = of-full e in rw (same, says)
 
     -- the values were written
     pub read-values : {count written given : ℕ} → r .answer ≡ read.Values count written given →
-        _≡_ {A = Served ℕ} (record { answer = result count; written = written; next = taught c (r .lengths) (r .counts) given; out = left })
+        _≡_ {A = Served Client ℕ} (record { answer = result count; written = written; next = taught c (r .lengths) (r .counts) given; out = left })
         (lent (finishReply (length out) c reply) out)
     read-values {count} {written} {given} e =
         by-test (ltb (length out) (length text))

@@ -7,6 +7,7 @@ use native.Mathlib.Omega.{arith}
 use lib.Dec.{eqb, ltb}
 use lib.ListN.{length, length-append}
 use borrow.Author.Tests.{eq-eqb, ne-eqb, le-ltb, lt-ltb, ltb-true, ltb-false}
+use Rattle.wire.specs.Call.{Said, saying, refusing}
 use Rattle.wire.specs.Text.{has, high}
 use Rattle.wire.proofs.Cases.{by-test, from-no}
 use Rattle.client_command.proofs.CommandLaws.{setup-length}
@@ -14,7 +15,7 @@ use Rattle.server_state.specs.declared.FeatureSupport.the-variants as support
 use Rattle.server_state.specs.State.{decided}
 use Rattle.client_session.specs.declared.Under.{Under}
 use Rattle.client_session.specs.declared.Under.the-variants as under
-use Rattle.client_session.specs.Session.{Client, Said, saying, refusing, withUnder, withKnown, withLast, withFraming, withMulti}
+use Rattle.client_session.specs.Session.{Client, withUnder, withKnown, withLast, withFraming, withMulti}
 use Rattle.client_session.specs.Piece.{Progress, over, isSeveral, failedClient, failing, sendSetup, setupDone, completed, replyIn, progressed, replyTakes, numbered, pieceNumber, pieceUnder, pieceSays, isAwaited, failureUnder, failureSays}
 use Rattle.client_session.specs.Steps.{turnNumber, replyNumber, isReset, pieceLimit}
 
@@ -240,10 +241,10 @@ module _ (room : ℕ) (c : Client) where
 
 -- the bytes to send are few: a command of the initialisation, or the query and CR
 module _ (c : Client) where
-  abbrev Short : Said Progress → Type 0
+  abbrev Short : Said Client Progress → Type 0
   Short d = length (d .text) ≤ length (c .query .text) + 6
 
-  either : (b : Bool) (d e : Said Progress) → Short d → Short e → Short (cond b d e)
+  either : (b : Bool) (d e : Said Client Progress) → Short d → Short e → Short (cond b d e)
   either true d e p q = p
   either false d e p q = q
 
@@ -278,7 +279,7 @@ module _ (c : Client) where
 
     -- so they fit
     module _ (room : ℕ) (query : length (c .query .text) ≤ 74) where
-      number-fits : (limit : ℕ) (d : Said Progress) → Short d → length (numbered (pieceNumber limit piece room (length store)) c d .text) ≤ room
+      number-fits : (limit : ℕ) (d : Said Client Progress) → Short d → length (numbered (pieceNumber limit piece room (length store)) c d .text) ≤ room
       number-fits limit d h =
           by-test (ltb limit (length piece))
           (λ e. rw e (omega arith))

@@ -7,6 +7,7 @@ use native.Mathlib.Omega.{arith}
 use lib.Dec.{eqb}
 use lib.ListN.{length, take, length-append}
 use lib.Seq.{sets, length-sets}
+use Rattle.wire.specs.Call.{Said, saying}
 use Rattle.wire.specs.Put.{Put}
 use Rattle.wire.specs.Text.{has, high}
 use Rattle.wire.proofs.Cases.{by-test, from-no, or-none}
@@ -14,7 +15,7 @@ use Rattle.wire.proofs.PutLaws.{put-then}
 use Rattle.wire.proofs.TextLaws.{has-append, high-append}
 use Rattle.client_session.specs.declared.Under.{Under}
 use Rattle.client_session.specs.declared.Under.the-variants as under
-use Rattle.client_session.specs.Session.{Client, Said, saying, withUnder}
+use Rattle.client_session.specs.Session.{Client, withUnder}
 use Rattle.client_session.specs.Piece.{Progress, awaited, completed, replyIn, progressed, pieceSays, appended, stored, isAwaited}
 use Rattle.client_session.specs.Pieces.{Fed, feedOn, fed, joined, Sized}
 use Rattle.client_session.specs.Steps.{isReset}
@@ -48,7 +49,7 @@ module _ (room : ℕ) (c : Client) (store st p : List ℕ) (w : Awaiting room c 
   pub piece-stored : stored (c .under) (pieceSays room c p store .answer) (c .got) p store ≡ sets store (c .got) p
   piece-stored =
       stored-joined (c .under) (pieceSays room c p store .answer) (c .got) p store (w .turn) (w .reply) ∙
-      ap (λ (d : Said Progress). appended (d .answer) (c .got) p store) piece-progressed ∙
+      ap (λ (d : Said Client Progress). appended (d .answer) (c .got) p store) piece-progressed ∙
       progressed-stored (c .under) c (st ++ p) (c .got) p store (w .turn)
 
   -- without a prompt more is awaited; with one it is complete
@@ -163,10 +164,10 @@ module _ (room : ℕ) (c : Client) (store st p : List ℕ) (ps : List (List ℕ)
   low : high (st ++ p) ≡ false
   low = or-none (high (st ++ p)) (high (joined ps)) (sym (high-append (st ++ p) (joined ps)) ∙ ap high rest ∙ low-prompt body (ok .low)) .0
 
-  abbrev step : Said Progress → List ℕ → Fed
+  abbrev step : Said Client Progress → List ℕ → Fed
   step d s = feedOn (d .answer) (record { said = d; store = s; left = ps }) (fed room (d .next) s ps)
 
-  says : {d : Said Progress} → pieceSays room c p store ≡ d → fed room c store (p ∷ ps) ≡ step d (sets store (c .got) p)
+  says : {d : Said Client Progress} → pieceSays room c p store ≡ d → fed room c store (p ∷ ps) ≡ step d (sets store (c .got) p)
   says e = let k = piece-stored room c store st p w (z .0) (z .1) fits low in λ i. step (e i) (k i)
 
   -- the piece with the prompt is the last one

@@ -8,12 +8,13 @@ use lib.Dec.{eqb, ltb}
 use lib.ListN.{length, length-append}
 use borrow.Author.Tests.{eq-eqb, ne-eqb, lt-ltb, le-ltb, eqb-true, ltb-true, ltb-false}
 use Rattle.wire.proofs.Cases.{by-test}
+use Rattle.wire.specs.Call.{saying, refusing}
 use Rattle.wire.specs.Text.{ascii, high}
 use Rattle.query.proofs.QueryLaws.{query-short}
 use Rattle.client_command.specs.Commands.{withCR, framingEffect}
 use Rattle.client_command.proofs.CommandLaws.{cr-length}
 use Rattle.client_session.specs.declared.Under.the-variants as under
-use Rattle.client_session.specs.Session.{Query, Client, saying, refusing, withUnder, withKnown, withLast}
+use Rattle.client_session.specs.Session.{Query, Client, withUnder, withKnown, withLast}
 use Rattle.client_session.specs.Start.{isNothing, startNumber, started, repeats, newQuery, asking, queryStarted, rawNumber, pidsNumber, initSays, commandSays, queryPidSays, queryPidsSays}
 
 -- the number of a start: 1, its own, 6, and none

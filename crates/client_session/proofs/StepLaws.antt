@@ -9,6 +9,7 @@ use lib.Seq.{take-all}
 use borrow.Author.Tests.{eqb-true}
 use lib.Dec.{eqb}
 use Rattle.wire.specs.Answer.{Answer, result, refused}
+use Rattle.wire.specs.Call.{Said, saying, refusing, Served, lent}
 use Rattle.wire.specs.Put.{Put}
 use Rattle.wire.proofs.Cases.{by-test, from-no}
 use Rattle.wire.proofs.PutLaws.{put-none, put-front}
@@ -17,20 +18,20 @@ use Rattle.client_session.specs.declared.StartAnswer.{StartAnswer}
 use Rattle.client_session.specs.declared.StartStep.{StartStep}
 use Rattle.client_session.specs.declared.PieceAnswer.{PieceAnswer}
 use Rattle.client_session.specs.declared.PieceStep.{PieceStep}
-use Rattle.client_session.specs.Session.{Client, client, Said, saying, refusing, Served, lent}
+use Rattle.client_session.specs.Session.{Client, client}
 use Rattle.client_session.specs.Start.{startAnswer, startServed}
 use Rattle.client_session.specs.Piece.{Progress, stored, pieceAnswer, pieceServed, pieceReceived, receiving}
 use Rattle.client_session.specs.Steps.{Does, Starts, Ends, byNumber, unstarted}
 
 -- a call that does what is said, with room for its text, is what the host is to see
-pub does-lent : {A : Type 0} {d : Said A} {out : List ℕ} {s : Served A} → Does d out s → length (d .text) ≤ length out → s ≡ lent d out
+pub does-lent : {A : Type 0} {d : Said Client A} {out : List ℕ} {s : Served Client A} → Does d out s → length (d .text) ≤ length out → s ≡ lent d out
 does-lent {d} {out} {s} p h =
     let w : s .written ≡ length (d .text) = omega (arith, p .text .next) in
     λ i. record { answer = p .answer i; written = w i; next = p .next i; out = p .text .bytes i }
 
 -- what is said in other words
-pub does-as : {A : Type 0} {d e : Said A} {out : List ℕ} {s : Served A} → d ≡ e → Does e out s → Does d out s
-does-as {A} {out} {s} q p = subst (λ (d : Said A). Does d out s) (sym q) p
+pub does-as : {A : Type 0} {d e : Said Client A} {out : List ℕ} {s : Served Client A} → d ≡ e → Does e out s → Does d out s
+does-as {A} {out} {s} q p = subst (λ (d : Said Client A). Does d out s) (sym q) p
 
 -- a start or a piece that sends a text
 pub does-starts : {c : Client} {r : StartStep} {n : ℕ} {t out left : List ℕ} → Starts c n r → Put out 0 t n left → Does (saying tt c t) out (startServed r left)
@@ -63,11 +64,11 @@ by-result {A} a b n e =
     by-test (eqb n 0) (λ t. eqb-true n 0 t) (λ t. let w : _≡_ {A = Answer A} (result b) (refused n) = rw t at e in from-no (cc))
 
 -- a piece that does what is said and leaves the store so is what the host is to see
-pub does-received : (c : Client) (piece store : List ℕ) (r : PieceStep) {d e : Said Progress} {out store₁ out₁ : List ℕ} → d ≡ e → Does e out (pieceServed r out₁) →
+pub does-received : (c : Client) (piece store : List ℕ) (r : PieceStep) {d e : Said Client Progress} {out store₁ out₁ : List ℕ} → d ≡ e → Does e out (pieceServed r out₁) →
     length (e .text) ≤ length out → store₁ ≡ stored (c .under) (e .answer) (c .got) piece store → pieceReceived r out₁ store₁ ≡ receiving c d piece store out
 does-received c piece store r {out} q p h k =
     let served = does-lent p h in
-    (λ i. record { served = served i; store = k i }) ∙ ap (λ (d : Said Progress). receiving c d piece store out) (sym q)
+    (λ i. record { served = served i; store = k i }) ∙ ap (λ (d : Said Client Progress). receiving c d piece store out) (sym q)
 
 -- a text that was put into an array stands at its front
 pub put-kept : {out left t : List ℕ} {r : ℕ} → Put out 0 t r left → length t ≤ length out → take r left ≡ t

@@ -7,12 +7,13 @@ use native.Mathlib.Omega.{arith}
 use lib.ListN.{length, take, drop, length-append, length-take}
 use lib.Seq.{sets, sets-eq, take-at, take-take}
 use Rattle.wire.specs.Answer.{Answer, result, refused}
+use Rattle.wire.specs.Call.{Said}
 use Rattle.wire.specs.Put.{Put}
 use Rattle.wire.specs.Text.{has, high}
 use Rattle.wire.proofs.Cases.{by-test, from-no}
 use Rattle.client_session.specs.declared.Under.{Under}
 use Rattle.client_session.specs.declared.Under.the-variants as under
-use Rattle.client_session.specs.Session.{Client, Said}
+use Rattle.client_session.specs.Session.{Client}
 use Rattle.client_session.specs.Piece.{Progress, awaited, sent, over, complete, setupDone, completed, replyIn, progressed, appended, stored, isAwaited}
 use Rattle.client_session.specs.Steps.{isReset}
 
@@ -67,7 +68,7 @@ stored-joined under.Repeat a at piece store e f = refl
 stored-joined under.Complete a at piece store e f = from-no (cc)
 
 -- a reply that goes on or is complete gets no number
-abbrev Taken : Said Progress → Type 0
+abbrev Taken : Said Client Progress → Type 0
 Taken d = (p : Progress) × (d .answer ≡ result p)
 
 setup-taken : (c : Client) (k n : ℕ) → Taken (setupDone c k n)

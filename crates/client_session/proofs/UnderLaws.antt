@@ -7,6 +7,7 @@ use lib.Dec.{eqb}
 use types.Run.{OneOf, miss}
 use denote.Enum.Declared.{tagOf}
 use Rattle.wire.specs.Answer.{Answer, result, refused}
+use Rattle.wire.specs.Call.{refusing}
 use Rattle.wire.proofs.Cases.{by-test, from-no}
 use Rattle.client_session.specs.declared.Under.{Under}
 use Rattle.client_session.specs.declared.Under.the-variants as under
@@ -14,7 +15,7 @@ use Rattle.client_session.specs.declared.StartAnswer.{StartAnswer}
 use Rattle.client_session.specs.declared.StartAnswer.the-variants as start
 use Rattle.client_session.specs.declared.PieceAnswer.{PieceAnswer}
 use Rattle.client_session.specs.declared.PieceAnswer.the-variants as answer
-use Rattle.client_session.specs.Session.{Client, refusing}
+use Rattle.client_session.specs.Session.{Client}
 use Rattle.client_session.specs.Start.{isNothing, startAnswer}
 use Rattle.client_session.specs.Piece.{Progress, awaited, isSeveral, isAwaited, completed, pieceAnswer}
 use Rattle.client_session.specs.Finish.{isComplete}

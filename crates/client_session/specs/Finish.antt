@@ -6,6 +6,7 @@ use Prim.Native.Nat.{ℕ}
 use lib.Dec.{ltb}
 use lib.ListN.{length}
 use Rattle.wire.specs.Answer.{Answer, result, refused}
+use Rattle.wire.specs.Call.{Said, saying, refusing, Served}
 use Rattle.wire.specs.Text.{high}
 use Rattle.line_list.specs.Lines.{Line}
 use Rattle.value.specs.Values.{Value, valuesBytes}
@@ -20,7 +21,7 @@ use Rattle.client_session.specs.declared.Under.the-variants as under
 use Rattle.client_session.specs.declared.FinishAnswer.{FinishAnswer}
 use Rattle.client_session.specs.declared.FinishAnswer.the-variants as answer
 use Rattle.client_session.specs.declared.FinishStep.{FinishStep}
-use Rattle.client_session.specs.Session.{Client, client, Said, saying, refusing, Served}
+use Rattle.client_session.specs.Session.{Client, client}
 use Rattle.client_session.specs.Piece.{failing, replyIn}
 
 -- multi-PID support after a reply that gave so many of the queried PIDs: with two it is confirmed, else refused
@@ -46,16 +47,16 @@ taught c lengths counts given = record {
 }
 
 -- the query is over; the result is the number of values
-abbrev pub finished : Client → List ℕ → List Value → Said ℕ
+abbrev pub finished : Client → List ℕ → List Value → Said Client ℕ
 finished c lengths vs =
     saying (length vs) (taught c lengths (learnCounts (c .known .framing) 0 (c .known .counts) vs) (givenPids (c .query .pids) vs))
     (valuesBytes (answerOrder vs))
 
 -- unless its values are longer than the room for them
-abbrev pub roomFor : ℕ → Client → Said ℕ → Said ℕ
+abbrev pub roomFor : ℕ → Client → Said Client ℕ → Said Client ℕ
 roomFor room c d = cond (ltb room (length (d .text))) (refusing 6 c) d
 
-abbrev pub finishReply : ℕ → Client → List ℕ → Said ℕ
+abbrev pub finishReply : ℕ → Client → List ℕ → Said Client ℕ
 finishReply room c reply =
     let ls = replyLines (c .known .framing) reply in
     let lengths = lengthsAfter (c .query .several) (c .query .pids) (c .known .lengths) ls in
@@ -72,7 +73,7 @@ isComplete under.Repeat = false
 isComplete under.Complete = true
 
 -- a finish: 1, 6, 9, 6
-unfoldable pub finishSays : ℕ → Client → List ℕ → Said ℕ
+unfoldable pub finishSays : ℕ → Client → List ℕ → Said Client ℕ
 finishSays room c store =
     cond (isComplete (c .under))
     (cond (ltb (length store) 4096) (refusing 6 c)
@@ -86,5 +87,5 @@ finishAnswer answer.OutOfTurn = refused 1
 finishAnswer answer.SmallBuffer = refused 6
 finishAnswer answer.NotAscii = refused 9
 
-abbrev pub finishServed : FinishStep → List ℕ → Served ℕ
+abbrev pub finishServed : FinishStep → List ℕ → Served Client ℕ
 finishServed r out = record { answer = finishAnswer (r .answer); written = r .written; next = client (r .session); out = out }

@@ -9,6 +9,7 @@ use lib.Dec.{eqb, ltb}
 use lib.ListN.{length, take}
 use lib.Seq.{sets}
 use Rattle.wire.specs.Answer.{Answer, result, refused}
+use Rattle.wire.specs.Call.{Said, saying, refusing, Served, lent}
 use Rattle.wire.specs.Text.{has, high}
 use Rattle.client_command.specs.Commands.{setupText}
 use Rattle.client_command.specs.declared.FramingEffect.{FramingEffect}
@@ -22,7 +23,7 @@ use Rattle.client_session.specs.declared.PieceAnswer.the-variants as ans
 use Rattle.client_session.specs.declared.PieceStep.{PieceStep}
 use Rattle.client_session.specs.declared.Failure.{Failure}
 use Rattle.client_session.specs.declared.Failure.the-variants as failure
-use Rattle.client_session.specs.Session.{Query, Known, Client, client, Said, saying, refusing, Served, lent, withUnder, withKnown, withLast, withFraming, withRepeat, withMulti}
+use Rattle.client_session.specs.Session.{Query, Known, Client, client, withUnder, withKnown, withLast, withFraming, withRepeat, withMulti}
 
 -- How far an awaited reply has come.
 pub data Progress : Type 0 where
@@ -56,16 +57,16 @@ failedKnown several k = withLast (withMulti k (cond several (decided (k .multi) 
 abbrev pub failedClient : Client → Client
 failedClient c = withUnder (withKnown c (failedKnown (isSeveral (c .under) (c .query .several)) (c .known))) under.Nothing 0
 
-abbrev pub failing : {A : Type 0} → ℕ → Client → Said A
+abbrev pub failing : {A : Type 0} → ℕ → Client → Said Client A
 failing n c = record { answer = refused n; next = failedClient c; text = [] }
 
 -- the k-th command of the initialisation after ATZ goes out; it is a raw command, so it forgets the last command
-abbrev pub sendSetup : Client → ℕ → Said Progress
+abbrev pub sendSetup : Client → ℕ → Said Client Progress
 sendSetup c k =
     saying sent (withUnder (withKnown c (withLast (c .known) [])) (under.Setup k) 0) (setupText (c .known .wanted) k)
 
 -- the k-th is answered: the next one follows, and the last sets framing as it was asked for
-abbrev pub setupDone : Client → ℕ → ℕ → Said Progress
+abbrev pub setupDone : Client → ℕ → ℕ → Said Client Progress
 setupDone c zero n = sendSetup c 1
 setupDone c (suc zero) n = sendSetup c 2
 setupDone c (suc (suc zero)) n = sendSetup c 3
@@ -79,14 +80,14 @@ afterEffect effect.On framing = true
 afterEffect effect.Off framing = false
 
 -- a repeated query is answered by r: with a `?` it goes out in full
-abbrev pub repeatDone : Client → List ℕ → Said Progress
+abbrev pub repeatDone : Client → List ℕ → Said Client Progress
 repeatDone c r =
     cond (has 63 r)
     (saying sent (withUnder (withKnown c (withRepeat (c .known) support.No)) under.Query 0) (c .query .text ++ (13 ∷ [])))
     (saying complete (withUnder (withKnown c (withRepeat (c .known) (decided (c .known .repeat) support.Yes))) under.Complete (length r)) [])
 
 -- a reply r is complete; out of turn nothing is awaited
-abbrev pub completed : Under → Client → List ℕ → Said Progress
+abbrev pub completed : Under → Client → List ℕ → Said Client Progress
 completed under.Nothing c r = refusing 1 c
 completed under.Reset c r = sendSetup c 0
 completed (under.Setup k) c r = setupDone c k (length r)
@@ -101,22 +102,22 @@ abbrev pub replyIn : Client → List ℕ → List ℕ
 replyIn c store = take (c .got) (take 4096 store)
 
 -- the joined reply r: it is complete once it holds the prompt
-abbrev pub progressed : Under → Client → List ℕ → Said Progress
+abbrev pub progressed : Under → Client → List ℕ → Said Client Progress
 progressed u c r = cond (has 62 r) (completed u c r) (saying awaited (withUnder c u (length r)) [])
 
 -- a reply joined with a piece: 7 for an empty piece, 8 past 4,096, 9 for a byte of 80 or more
-unfoldable pub replyTakes : Client → List ℕ → List ℕ → Said Progress
+unfoldable pub replyTakes : Client → List ℕ → List ℕ → Said Client Progress
 replyTakes c piece store =
     let r = replyIn c store ++ piece in
     cond (eqb (length piece) 0) (failing 7 c)
     (cond (ltb 4096 (c .got + length piece)) (failing 8 c)
     (cond (high r) (failing 9 c) (progressed (c .under) c r)))
 
-abbrev pub numbered : {A : Type 0} → ℕ → Client → Said A → Said A
+abbrev pub numbered : {A : Type 0} → ℕ → Client → Said Client A → Said Client A
 numbered n c d = cond (eqb n 0) d (refusing n c)
 
 -- what a piece says, by what is under way: 1 when no reply is awaited; 3 for "received piece over 128 (256 while the ATZ answer is awaited)"
-abbrev pub pieceUnder : Under → ℕ → Client → List ℕ → List ℕ → Said Progress
+abbrev pub pieceUnder : Under → ℕ → Client → List ℕ → List ℕ → Said Client Progress
 pieceUnder under.Nothing room c piece store = refusing 1 c
 pieceUnder under.Reset room c piece store = numbered (pieceNumber 256 piece room (length store)) c (sendSetup c 0)
 pieceUnder (under.Setup k) room c piece store = numbered (pieceNumber 128 piece room (length store)) c (replyTakes c piece store)
@@ -125,7 +126,7 @@ pieceUnder under.Query room c piece store = numbered (pieceNumber 128 piece room
 pieceUnder under.Repeat room c piece store = numbered (pieceNumber 128 piece room (length store)) c (replyTakes c piece store)
 pieceUnder under.Complete room c piece store = refusing 1 c
 
-unfoldable pub pieceSays : ℕ → Client → List ℕ → List ℕ → Said Progress
+unfoldable pub pieceSays : ℕ → Client → List ℕ → List ℕ → Said Client Progress
 pieceSays room c piece store = pieceUnder (c .under) room c piece store
 
 -- an accepted piece is appended to what the store holds of the reply; a number leaves the store
@@ -144,7 +145,7 @@ stored under.Repeat a at piece store = appended a at piece store
 stored under.Complete a at piece store = store
 
 -- a failed write or read, by what is under way
-abbrev pub failureUnder : Under → Bool → Client → Said Progress
+abbrev pub failureUnder : Under → Bool → Client → Said Client Progress
 failureUnder under.Nothing write c = refusing 1 c
 failureUnder under.Reset true c = record { answer = refused 7; next = withUnder c under.Nothing 0; text = [] }
 failureUnder under.Reset false c = sendSetup c 0
@@ -165,7 +166,7 @@ isAwaited under.Repeat = true
 isAwaited under.Complete = false
 
 -- a failure that the host tells of: 1, then 6 for room under 80
-unfoldable pub failureSays : ℕ → Client → Bool → Said Progress
+unfoldable pub failureSays : ℕ → Client → Bool → Said Client Progress
 failureSays room c write = cond (isAwaited (c .under)) (numbered (cond (ltb room 80) 6 0) c (failureUnder (c .under) write c)) (refusing 1 c)
 
 -- the cases of PieceAnswer, and of Failure
@@ -185,19 +186,19 @@ abbrev pub isWrite : Failure → Bool
 isWrite failure.Read = false
 isWrite failure.Write = true
 
-abbrev pub pieceServed : PieceStep → List ℕ → Served Progress
+abbrev pub pieceServed : PieceStep → List ℕ → Served Client Progress
 pieceServed r out = record { answer = pieceAnswer (r .answer); written = r .written; next = client (r .session); out = out }
 
 -- A piece as the host sees it: the call with its out buffer, and the store.
 pub record Received : Type 0 where
-  pub served : Served Progress
+  pub served : Served Client Progress
   pub store : List ℕ
 
 abbrev pub pieceReceived : PieceStep → List ℕ → List ℕ → Received
 pieceReceived r out store = record { served = pieceServed r out; store = store }
 
 -- what a piece does with the lent buffers
-abbrev pub receiving : Client → Said Progress → List ℕ → List ℕ → List ℕ → Received
+abbrev pub receiving : Client → Said Client Progress → List ℕ → List ℕ → List ℕ → Received
 receiving c d piece store out = record { served = lent d out; store = stored (c .under) (d .answer) (c .got) piece store }
 
 abbrev pub pieceLent : Client → List ℕ → List ℕ → List ℕ → Received

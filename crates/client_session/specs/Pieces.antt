@@ -3,12 +3,13 @@ use mathlib.Core.List.{List, [], _∷_, _++_}
 use Prim.Native.Nat.{ℕ, _≤_, _<_}
 use lib.ListN.{length}
 use Rattle.wire.specs.Answer.{Answer, result, refused}
-use Rattle.client_session.specs.Session.{Client, Said, saying}
+use Rattle.wire.specs.Call.{Said, saying}
+use Rattle.client_session.specs.Session.{Client}
 use Rattle.client_session.specs.Piece.{Progress, awaited, sent, over, complete, pieceSays, stored}
 
 -- What pieces come to: what the last one that was given says, the store, and the pieces that were not given.
 pub record Fed : Type 0 where
-  pub said : Said Progress
+  pub said : Said Client Progress
   pub store : List ℕ
   pub left : List (List ℕ)
 

@@ -6,6 +6,7 @@ use Prim.Native.Nat.{ℕ, _+_, _≤_}
 use lib.Dec.{eqb, ltb}
 use lib.ListN.{length, take}
 use Rattle.wire.specs.Answer.{Answer, result, refused}
+use Rattle.wire.specs.Call.{Said, Served}
 use Rattle.wire.specs.Put.{Put}
 use Rattle.wire.specs.Text.{high}
 use Rattle.reply_values.specs.Read.{Asked, asked}
@@ -17,12 +18,12 @@ use Rattle.client_session.specs.declared.StartAnswer.the-variants as sta
 use Rattle.client_session.specs.declared.StartStep.{StartStep}
 use Rattle.client_session.specs.declared.PieceAnswer.{PieceAnswer}
 use Rattle.client_session.specs.declared.PieceStep.{PieceStep}
-use Rattle.client_session.specs.Session.{Client, client, Said, Served}
+use Rattle.client_session.specs.Session.{Client, client}
 use Rattle.client_session.specs.Piece.{Progress, failing, isAwaited, appended, pieceServed}
 use Rattle.client_session.specs.Finish.{finishReply}
 
 -- A call does what is said, and writes from the front of the out buffer on as far as it reaches.
-pub record Does {A : Type 0} (d : Said A) (out : List ℕ) (s : Served A) : Type 0 where
+pub record Does {A : Type 0} (d : Said Client A) (out : List ℕ) (s : Served Client A) : Type 0 where
   pub answer : s .answer ≡ d .answer
   pub next : s .next ≡ d .next
   pub text : Put out 0 (d .text) (s .written) (s .out)
@@ -46,7 +47,7 @@ pub record Joining (c : Client) (piece store : List ℕ) : Type 0 where
   pub room : 4096 ≤ length store
 
 -- It does what is said, and is appended to the store where it is accepted.
-pub record Receives (d : Said Progress) (got : ℕ) (piece store out : List ℕ) (r : PieceStep) (out₁ store₁ : List ℕ) : Type 0 where
+pub record Receives (d : Said Client Progress) (got : ℕ) (piece store out : List ℕ) (r : PieceStep) (out₁ store₁ : List ℕ) : Type 0 where
   pub does : Does d out (pieceServed r out₁)
   pub kept : store₁ ≡ appended (d .answer) got piece store
 
@@ -81,7 +82,7 @@ abbrev pub question : Client → Asked
 question c = asked (c .known .framing) (c .query .several) (c .query .pids) (c .known .lengths) (c .known .counts)
 
 -- a finish of the reply that the store holds
-abbrev pub finishStored : ℕ → Client → List ℕ → Said ℕ
+abbrev pub finishStored : ℕ → Client → List ℕ → Said Client ℕ
 finishStored room c reply = cond (high reply) (failing 9 c) (finishReply room c reply)
 
 -- nothing is sent, and the session stays

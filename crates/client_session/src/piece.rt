@@ -12,8 +12,9 @@ ghost use mathlib.Core.List.{_++_};
 ghost use Prim.Native.Nat.{_≤_};
 ghost use lib.Dec.{ltb};
 ghost use lib.ListN.{length, take};
+ghost use Rattle.wire.specs.Call.{lent};
 ghost use Rattle.wire.specs.Text.{high};
-ghost use Rattle.client_session.specs.Session.{client, lent, withUnder, withKnown, withLast, withFraming};
+ghost use Rattle.client_session.specs.Session.{client, withUnder, withKnown, withLast, withFraming};
 ghost use Rattle.client_session.specs.Piece.{awaited, pieceNumber, failedClient, sendSetup, setupDone, afterEffect, repeatDone, completed, progressed, replyTakes, pieceLent, failureUnder, failureSays, isWrite, pieceAnswer, pieceServed, pieceReceived};
 ghost use Rattle.client_session.specs.Steps.{Does, Ends, Joining, Receives, byNumber, turnNumber, replyNumber, pieceLimit};
 

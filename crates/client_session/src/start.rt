@@ -10,11 +10,12 @@ ghost use mathlib.Core.Path.{_≡_};
 ghost use mathlib.Core.Bool.{_&&_};
 ghost use Prim.Native.Nat.{_≤_};
 ghost use lib.ListN.{length};
+ghost use Rattle.wire.specs.Call.{lent};
 ghost use Rattle.wire.specs.Text.{same};
 ghost use Rattle.query.specs.Query.{countOf};
 ghost use Rattle.query_text.specs.Text.{text};
 ghost use Rattle.server_state.specs.State.{mayTry};
-ghost use Rattle.client_session.specs.Session.{Client, client, lent, withUnder, withQuery};
+ghost use Rattle.client_session.specs.Session.{Client, client, withUnder, withQuery};
 ghost use Rattle.client_session.specs.Start.{startNumber, rawNumber, newQuery, pidsNumber, queryStarted, initSays, commandSays, queryPidSays, queryPidsSays, startAnswer, startServed};
 ghost use Rattle.client_session.specs.Steps.{Does, Starts, byNumber, unstarted};
 

@@ -6,13 +6,14 @@ use Prim.Native.Nat.{ℕ, suc}
 use lib.Dec.{eqb}
 use lib.ListN.{length, take, drop, getD}
 use Rattle.wire.specs.Answer.{Answer, result, refused}
+use Rattle.wire.specs.Call.{Served, lent}
 use Rattle.pid.specs.Lengths.{lengthIn}
 use Rattle.server_state.specs.declared.FeatureSupport.{FeatureSupport}
 use Rattle.server_state.specs.declared.FeatureSupport.the-variants as support
 use Rattle.server_state.specs.State.{countIn}
 use Rattle.client_session.specs.declared.Under.{Under}
 use Rattle.client_session.specs.declared.Under.the-variants as under
-use Rattle.client_session.specs.Session.{Client, client, Served, lent}
+use Rattle.client_session.specs.Session.{Client, client}
 use Rattle.client_session.specs.Start.{initSays, commandSays, queryPidSays, queryPidsSays}
 use Rattle.client_session.specs.Piece.{Progress, awaited, sent, over, complete, pieceLent, failureSays}
 use Rattle.client_session.specs.Finish.{finishSays}
@@ -78,13 +79,13 @@ pub record Stored : Type 0 where
   pub store : List ℕ
 
 -- a call as the host sees it is noted
-abbrev pub startNoted : Stored → Served (Unit {0}) → Stored
+abbrev pub startNoted : Stored → Served Client (Unit {0}) → Stored
 startNoted t r = record { turn = answered (t .turn .at) (t .turn .log) (startCode (r .answer)) 0 (r .written) (r .next) (r .out); store = t .store }
 
-abbrev pub pieceNoted : Stored → Served Progress → List ℕ → Stored
+abbrev pub pieceNoted : Stored → Served Client Progress → List ℕ → Stored
 pieceNoted t r store = record { turn = answered (t .turn .at) (t .turn .log) (pieceCode (r .answer)) 0 (r .written) (r .next) (r .out); store = store }
 
-abbrev pub finishNoted : Stored → Served ℕ → Stored
+abbrev pub finishNoted : Stored → Served Client ℕ → Stored
 finishNoted t r = record {
   turn = answered (t .turn .at) (t .turn .log) (finishCode (r .answer)) (finishCount (r .answer)) (r .written) (r .next) (r .out);
   store = t .store;

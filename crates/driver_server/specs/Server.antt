@@ -5,10 +5,11 @@ use Prim.Native.Nat.{ℕ}
 use lib.Dec.{eqb}
 use lib.ListN.{length, getD}
 use Rattle.wire.specs.Answer.{Answer, result, refused}
+use Rattle.wire.specs.Call.{Served, lent}
 use Rattle.wire.specs.Text.{ascii}
 use Rattle.server_session.specs.declared.Phase.{Phase}
 use Rattle.server_session.specs.declared.Phase.the-variants as phase
-use Rattle.server_session.specs.Session.{Session, session, Served, lent}
+use Rattle.server_session.specs.Session.{Session, session}
 use Rattle.server_session.specs.Bytes.{byteSays, bytesSay, ServedBytes, lentBytes}
 use Rattle.server_session.specs.Replies.{answerSays, replySays, rejectSays}
 use Rattle.driver_server.specs.declared.ServerTurn.{ServerTurn}
@@ -38,13 +39,13 @@ stateEntry s =
     (textEntry (s .state .last) ++ textEntry (s .line))
 
 -- a call as the host sees it is noted
-abbrev pub byteNoted : Turn Session → Served Phase → Turn Session
+abbrev pub byteNoted : Turn Session → Served Session Phase → Turn Session
 byteNoted t r = answered (t .at) (t .log) (byteCode (r .answer)) 0 (r .written) (r .next) (r .out)
 
 abbrev pub bytesNoted : Turn Session → ServedBytes → Turn Session
 bytesNoted t r = answered (t .at) (t .log) (byteCode (r .answer)) (r .taken) (r .written) (r .next) (r .out)
 
-abbrev pub sentNoted : Turn Session → Served (Unit {0}) → Turn Session
+abbrev pub sentNoted : Turn Session → Served Session (Unit {0}) → Turn Session
 sentNoted t r = answered (t .at) (t .log) (sentCode (r .answer)) 0 (r .written) (r .next) (r .out)
 
 -- the calls that are made more rarely: 5 is `reject`, 6 `answer` with the argument as the identity string for ATI; any other shows the state

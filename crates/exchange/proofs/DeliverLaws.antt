@@ -10,6 +10,7 @@ use lib.ListN.{length, take, drop, getD, length-take, length-drop, drop-of-lengt
 use lib.Seq.{sets, drop-cons, drop-drop, drop-nil}
 use borrow.Author.Tests.{ne-eqb, ltb-true, ltb-false, leb-true, leb-false}
 use Rattle.wire.specs.Answer.{Answer, result, refused}
+use Rattle.wire.specs.Call.{Said, saying}
 use Rattle.wire.specs.Text.{has, high}
 use Rattle.wire.proofs.Cases.{by-test, from-no}
 use Rattle.wire.proofs.ListLaws.{take-cut}
@@ -18,7 +19,7 @@ use Rattle.client_session.specs.declared.Under.the-variants as under
 use Rattle.client_session.specs.declared.PieceAnswer.the-variants.{Awaited}
 use Rattle.client_session.specs.declared.ClientSession.{ClientSession}
 use Rattle.client_session.specs.declared.PieceStep.{PieceStep}
-use Rattle.client_session.specs.Session.{Client, client, Said, saying, withUnder}
+use Rattle.client_session.specs.Session.{Client, client, withUnder}
 use Rattle.client_session.specs.Piece.{Progress, awaited, sent, over, complete, sendSetup, setupDone, completed, replyIn, replyTakes, numbered, pieceNumber, pieceUnder, pieceSays, stored, pieceAnswer, pieceReceived, pieceLent}
 use Rattle.client_session.specs.Piece as P
 use Rattle.client_session.specs.Pieces.{Fed, feedOn, fed}
@@ -129,7 +130,7 @@ module _ (room : ℕ) (c : Client) (store ks r : List ℕ) (some : 0 < length r)
   abbrev others : List (List ℕ)
   others = pieces (lengthsLeft ks) (drop (nextSize ks) r)
 
-  abbrev says : Said Progress
+  abbrev says : Said Client Progress
   says = pieceSays room c first store
 
   abbrev kept : List ℕ
@@ -162,13 +163,13 @@ module _ (room : ℕ) (c : Client) (store ks r : List ℕ) (some : 0 < length r)
 -- ---- a piece after which more is awaited: it joins the reply, and nothing is sent
 
 module _ (c : Client) (piece store : List ℕ) where
-  abbrev joined : Said Progress
+  abbrev joined : Said Client Progress
   joined = saying awaited (withUnder c (c .under) (length (replyIn c store ++ piece))) []
 
-  abbrev Joins : Said Progress → Type 0
+  abbrev Joins : Said Client Progress → Type 0
   Joins d = awaits (d .answer) ≡ true → d ≡ joined
 
-  joins-any : (b : Bool) (d e : Said Progress) → Joins d → Joins e → Joins (cond b d e)
+  joins-any : (b : Bool) (d e : Said Client Progress) → Joins d → Joins e → Joins (cond b d e)
   joins-any true d e p q = p
   joins-any false d e p q = q
 
@@ -197,7 +198,7 @@ module _ (c : Client) (piece store : List ℕ) where
       (joins-any (high r) _ _ (λ e. from-no (cc))
       (joins-any (has 62 r) _ _ (completed-joins (c .under) r) (λ e. refl))))
 
-  number-joins : (n : ℕ) (d : Said Progress) → Joins d → Joins (numbered n c d)
+  number-joins : (n : ℕ) (d : Said Client Progress) → Joins d → Joins (numbered n c d)
   number-joins n d q = joins-any (eqb n 0) d _ q (λ e. from-no (cc))
 
   pub piece-awaits : (room : ℕ) → awaits (pieceSays room c piece store .answer) ≡ true →
@@ -218,7 +219,7 @@ module _ (c : Client) (piece store : List ℕ) where
 
 module _ (c : Client) (store out ks r piece : List ℕ) (step : PieceStep) (store₁ out₁ : List ℕ) (some : 0 < length r) (q : piece ≡ take (nextSize ks) r)
     (e : pieceReceived step out₁ store₁ ≡ pieceLent c piece store out) where
-  abbrev told : Said Progress
+  abbrev told : Said Client Progress
   told = says (length out) c store ks r some
 
   was-told : pieceReceived step out₁ store₁ ≡ P.receiving c told (take (nextSize ks) r) store out
@@ -233,7 +234,7 @@ module _ (c : Client) (store out ks r piece : List ℕ) (step : PieceStep) (stor
     goes-on = ap awaits answered ∙ more
 
     unsent : out₁ ≡ out
-    unsent = ap (λ (x : P.Received). x .served .out) was-told ∙ ap (λ (d : Said Progress). sets out 0 (d .text)) (piece-awaits c (take (nextSize ks) r) store (length out) goes-on)
+    unsent = ap (λ (x : P.Received). x .served .out) was-told ∙ ap (λ (d : Said Client Progress). sets out 0 (d .text)) (piece-awaits c (take (nextSize ks) r) store (length out) goes-on)
 
     pub more-received : receiving (delivered (length out) c store ks r) out ≡
         receiving (delivered (length out₁) (client (step .session)) store₁ (lengthsLeft ks) (drop (nextSize ks) r)) out₁
@@ -266,7 +267,7 @@ fed-fits room c store (p ∷ ps) h =
     let d = pieceSays room c p store in
     fed-either (λ f. length (f .said .text) ≤ room) room c store p ps
     (λ e.
-    let same = ap (λ (x : Said Progress). length (x .next .query .text)) (piece-awaits c p store room e) in
+    let same = ap (λ (x : Said Client Progress). length (x .next .query .text)) (piece-awaits c p store room e) in
     fed-fits room (d .next) (stored (c .under) (d .answer) (c .got) p store) ps (omega arith))
     (λ e. piece-fits c p store room h)
 

@@ -7,14 +7,15 @@ use lib.ListN.{length, take, drop, length-append, length-take, length-drop}
 use lib.Seq.{sets, length-sets, sets-eq, drop-drop, drop-length, take-all}
 use borrow.Rule.Slice.PartMut.{midOf, postOf, putMid}
 use Rattle.wire.specs.Answer.{Answer, result, refused}
+use Rattle.wire.specs.Call.{Said}
+use Rattle.wire.specs.Call as call
 use Rattle.wire.specs.Put.{Put}
 use Rattle.wire.proofs.PutLaws.{put-then}
 use Rattle.server_session.specs.declared.Phase.{Phase}
 use Rattle.server_session.specs.declared.Phase.the-variants.{Reading, AtCommand, ObdCommand}
 use Rattle.server_session.specs.declared.BytesStep.{BytesStep}
 use Rattle.server_session.specs.declared.ReplyStep.{ReplyStep}
-use Rattle.server_session.specs.Session as S
-use Rattle.server_session.specs.Session.{Session, session, Said}
+use Rattle.server_session.specs.Session.{Session, session}
 use Rattle.server_session.specs.Bytes.{byteAnswer, Heard, bytesSay, ServedBytes, bytesServed, lentBytes}
 use Rattle.server_session.specs.Replies.{answerSays, replySays, replyServed}
 use Rattle.server_session.proofs.BytesLaws.{bytes-fit}
@@ -85,9 +86,9 @@ module _ (out command list : List ℕ) (server : Session) (r : BytesStep) (left 
       ap (λ (x : Exchanged). lent x out) (sym (by-answer a k ∙ none (length rest) heard))
 
   -- a command was handed out, and is answered with what d says
-  module _ (d : Said (Unit {0})) (s : ReplyStep) (rest₁ : List ℕ) (p : replyServed s rest₁ ≡ S.lent d rest) (fits : s .written ≤ length rest) where
+  module _ (d : Said Session (Unit {0})) (s : ReplyStep) (rest₁ : List ℕ) (p : replyServed s rest₁ ≡ call.lent d rest) (fits : s .written ≤ length rest) where
     answer-size : s .written ≡ length (d .text)
-    answer-size = ap (λ (x : S.Served (Unit {0})). x .written) p
+    answer-size = ap (λ (x : call.Served Session (Unit {0})). x .written) p
 
     abbrev whole : List ℕ
     whole = putMid place (length left - place) left rest₁
@@ -99,7 +100,7 @@ module _ (out command list : List ℕ) (server : Session) (r : BytesStep) (left 
         record {
           next = refl;
           bytes =
-              ap (putMid place (length left - place) left) (ap (λ (x : S.Served (Unit {0})). x .out) p) ∙
+              ap (putMid place (length left - place) left) (ap (λ (x : call.Served Session (Unit {0})). x .out) p) ∙
               rest-sets left (d .text) place (omega (arith, fits, answer-size, place-inside, length-take (length left - place) (drop place left)));
         } in
         put-then first second .bytes
@@ -108,19 +109,19 @@ module _ (out command list : List ℕ) (server : Session) (r : BytesStep) (left 
         exchangeServed (record { written = place + s .written; session = s .session }) whole ≡ lent (exchanged (length out) server command list) out
     answered-lent handed q =
         let n : place + s .written ≡ length (heard .text ++ d .text) = omega (arith, at-place, answer-size, length-append (heard .text) (d .text)) in
-        let own = ap (λ (x : S.Served (Unit {0})). x .next) p in
+        let own = ap (λ (x : call.Served Session (Unit {0})). x .next) p in
         (λ i. record { written = n i; next = own i; out = both i }) ∙ ap (λ (x : Exchanged). lent x out) (sym q)
 
   -- an AT command, and an OBD command
   module _ (s : ReplyStep) (rest₁ : List ℕ) where
-    pub at-lent : byteAnswer (r .answer) ≡ result AtCommand → replyServed s rest₁ ≡ S.lent (answerSays (length rest) (session (r .session)) identity device) rest →
+    pub at-lent : byteAnswer (r .answer) ≡ result AtCommand → replyServed s rest₁ ≡ call.lent (answerSays (length rest) (session (r .session)) identity device) rest →
         exchangeServed (record { written = place + s .written; session = s .session }) (putMid place (length left - place) left rest₁) ≡
         lent (exchanged (length out) server command list) out
     at-lent k p =
         answered-lent _ s rest₁ p (answer-written (session (r .session)) identity device rest rest₁ s p) []
         (by-answer (result AtCommand) k ∙ ap (λ (c : Session). answering heard (answerSays (length rest) c identity device) []) (sym next))
 
-    pub obd-lent : byteAnswer (r .answer) ≡ result ObdCommand → replyServed s rest₁ ≡ S.lent (replySays (length rest) (session (r .session)) list) rest →
+    pub obd-lent : byteAnswer (r .answer) ≡ result ObdCommand → replyServed s rest₁ ≡ call.lent (replySays (length rest) (session (r .session)) list) rest →
         exchangeServed (record { written = place + s .written; session = s .session }) (putMid place (length left - place) left rest₁) ≡
         lent (exchanged (length out) server command list) out
     obd-lent k p =
@@ -141,7 +142,7 @@ exchanged-fits room s command list = by (h .answer)
     few : length (h .text) ≤ room
     few = bytes-fit command s room .0
 
-    then : (d : Said (Unit {0})) → length (d .text) ≤ free → length (h .text ++ d .text) ≤ room
+    then : (d : Said Session (Unit {0})) → length (d .text) ≤ free → length (h .text ++ d .text) ≤ room
     then d k = omega (arith, few, length-append (h .text) (d .text))
 
     by : (a : Answer Phase) → length (answered free a h list .text) ≤ room

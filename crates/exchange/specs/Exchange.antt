@@ -5,10 +5,11 @@ use Prim.Native.Nat.{ℕ, _-_}
 use lib.ListN.{length}
 use lib.Seq.{sets}
 use Rattle.wire.specs.Answer.{Answer, result, refused}
+use Rattle.wire.specs.Call.{Said}
 use Rattle.wire.specs.Text.{ascii}
 use Rattle.server_session.specs.declared.Phase.{Phase}
 use Rattle.server_session.specs.declared.Phase.the-variants.{Reading, AtCommand, ObdCommand}
-use Rattle.server_session.specs.Session.{Session, session, Said}
+use Rattle.server_session.specs.Session.{Session, session}
 use Rattle.server_session.specs.Bytes.{Heard, bytesSay}
 use Rattle.server_session.specs.Replies.{answerSays, replySays}
 use Rattle.exchange.specs.declared.ExchangeStep.{ExchangeStep}
@@ -26,7 +27,7 @@ pub record Exchanged : Type 0 where
   pub handed : List (List ℕ)
 
 -- what was sent while the line was read, and then the answer
-abbrev pub answering : Heard → Said (Unit {0}) → List (List ℕ) → Exchanged
+abbrev pub answering : Heard → Said Session (Unit {0}) → List (List ℕ) → Exchanged
 answering h d handed = record { next = d .next; text = h .text ++ d .text; handed = handed }
 
 -- no command was handed out, so nothing is answered

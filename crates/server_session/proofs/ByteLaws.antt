@@ -7,12 +7,13 @@ use native.Mathlib.Omega.{arith}
 use lib.Dec.{eqb, ltb, leb, lit≤}
 use lib.ListN.{length, length-append}
 use borrow.Author.Tests.{eqb-true, eqb-false, eq-eqb, ne-eqb, ltb-false, le-ltb, leb-false, lt-leb}
+use Rattle.wire.specs.Call.{Said, saying, refusing}
 use Rattle.wire.specs.Text.{ascii}
 use Rattle.wire.proofs.Cases.{by-test, from-no}
 use Rattle.reply.specs.Shape.{chipReply}
 use Rattle.server_session.specs.declared.Phase.{Phase}
 use Rattle.server_session.specs.declared.Phase.the-variants.{Reading, AtCommand, ObdCommand}
-use Rattle.server_session.specs.Session.{Session, isReading, Said, saying, refusing}
+use Rattle.server_session.specs.Session.{Session, isReading}
 use Rattle.server_session.specs.Bytes.{canonical, byteNumber, withLine, echoed, commandPhase, emptyLine, lineEnd, byteTaken, byteSays}
 use Rattle.server_session.specs.Steps.{numbered, goesOn}
 use Rattle.server_session.proofs.LineLaws.{and-false}
@@ -88,7 +89,7 @@ says-refused room s b e = rw e
 -- The end of a line
 
 -- the same, after some text
-abbrev pub afterText : List ℕ → Said Phase → Said Phase
+abbrev pub afterText : List ℕ → Said Session Phase → Said Session Phase
 afterText e d = record { answer = d .answer; next = d .next; text = e ++ d .text }
 
 pub empty-none : (s : Session) (e l : List ℕ) → length l ≡ 0 →

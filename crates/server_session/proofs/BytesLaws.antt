@@ -9,6 +9,7 @@ use lib.Dec.{eqb, leb, lit≤}
 use lib.ListN.{length, length-append}
 use borrow.Author.Tests.{eqb-true, eqb-false, leb-false}
 use Rattle.wire.specs.Answer.{Answer, result, refused}
+use Rattle.wire.specs.Call.{Said, saying, Served, lent}
 use Rattle.wire.specs.Text.{ascii, begins, any}
 use Rattle.reply.specs.Shape.{chipReply}
 use Rattle.wire.proofs.Cases.{by-test, from-no, or-none}
@@ -16,7 +17,7 @@ use Rattle.server_session.specs.declared.Phase.{Phase}
 use Rattle.server_session.specs.declared.Phase.the-variants.{Reading, AtCommand, ObdCommand}
 use Rattle.server_session.specs.declared.ByteStep.{ByteStep}
 use Rattle.server_session.specs.declared.BytesStep.{BytesStep}
-use Rattle.server_session.specs.Session.{Session, Said, saying, Served, lent}
+use Rattle.server_session.specs.Session.{Session}
 use Rattle.server_session.specs.Bytes.{canonical, byteNumber, withLine, echoes, echoed, commandPhase, emptyLine, lineEnd, byteTaken, byteSays, byteServed, Heard, onward, stopOr, bytesSay, ServedBytes, bytesServed, lentBytes}
 use Rattle.server_session.specs.Steps.{goesOn, counted, isSpecial}
 use Rattle.server_session.proofs.ByteLaws.{number-open, says-taken, says-refused, empty-none, empty-last, line-command, taken-cr, taken-lf, taken-plain, text-short}
@@ -39,7 +40,7 @@ says-plain room s b t f p h =
 abbrev pub after : ℕ → List ℕ → Heard → Heard
 after n e h = record { answer = h .answer; taken = n + h .taken; next = h .next; text = e ++ h .text }
 
-go-on : (s : Session) (d : Said Phase) (h : Heard) (a : Answer Phase) → goesOn a ≡ true → stopOr s d a h ≡ onward d h
+go-on : (s : Session) (d : Said Session Phase) (h : Heard) (a : Answer Phase) → goesOn a ≡ true → stopOr s d a h ≡ onward d h
 go-on s d h (result Reading) e = refl
 go-on s d h (result AtCommand) e = from-no cc
 go-on s d h (result ObdCommand) e = from-no cc
@@ -59,10 +60,10 @@ on-counted (result p) e = refl
 on-counted (refused n) e = from-no cc
 
 -- what the last byte that is looked at says
-abbrev pub lastOf : Said Phase → Heard
+abbrev pub lastOf : Said Session Phase → Heard
 lastOf d = record { answer = d .answer; taken = counted (d .answer); next = d .next; text = d .text }
 
-stops : (s : Session) (d : Said Phase) (h : Heard) (p : Phase) → d .answer ≡ result p → goesOn (result p) ≡ false → stopOr s d (d .answer) h ≡ lastOf d
+stops : (s : Session) (d : Said Session Phase) (h : Heard) (p : Phase) → d .answer ≡ result p → goesOn (result p) ≡ false → stopOr s d (d .answer) h ≡ lastOf d
 stops s d h Reading q e = from-no cc
 stops s d h AtCommand q e = rw q
 stops s d h ObdCommand q e = rw q
@@ -92,11 +93,11 @@ bytes-stop room s b bs e =
     (λ t.
     let d = says-taken room s b (eqb-true (byteNumber room s b) 0 t) in
     let (p, q) = taken-result s b in
-    let a : byteSays room s b .answer ≡ result p = ap (λ (x : Said Phase). x .answer) d ∙ q in
+    let a : byteSays room s b .answer ≡ result p = ap (λ (x : Said Session Phase). x .answer) d ∙ q in
     stops s (byteSays room s b) _ p a (sym (ap goesOn a) ∙ e))
     (λ t. rw (says-refused room s b t))
 
-pub onward-after : (d : Said Phase) (h : Heard) → onward d h ≡ after 1 (d .text) h
+pub onward-after : (d : Said Session Phase) (h : Heard) → onward d h ≡ after 1 (d .text) h
 onward-after d h = let t : suc (h .taken) ≡ 1 + h .taken = omega arith in λ i. record { answer = h .answer; taken = t i; next = h .next; text = d .text ++ h .text }
 
 -- A run
@@ -227,7 +228,7 @@ line-says text rest s room p t h f k =
 -- What the contracts give a caller of `byte` and `bytes`: the bytes to send stand inside the lent buffer, and those taken inside the input.
 pub byte-written : (s : Session) (b : ℕ) (out left : List ℕ) (r : ByteStep) → byteServed r left ≡ lent (byteSays (length out) s b) out → (r .written ≤ 8) × (r .written ≤ length out)
 byte-written s b out left r e =
-    let w : r .written ≡ length (byteSays (length out) s b .text) = ap (λ (x : Served Phase). x .written) e in
+    let w : r .written ≡ length (byteSays (length out) s b .text) = ap (λ (x : Served Session Phase). x .written) e in
     rw w (text-short (length out) s b)
 
 pub bytes-written : (s : Session) (input out left : List ℕ) (r : BytesStep) → bytesServed r left ≡ lentBytes (bytesSay (length out) s input) out →

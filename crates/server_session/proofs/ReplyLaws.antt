@@ -9,6 +9,7 @@ use lib.ListN.{length, length-append}
 use lib.Seq.{sets}
 use borrow.Author.Tests.{eqb-true, eqb-false, le-ltb, ltb-false}
 use Rattle.wire.specs.Answer.{Answer, result, refused}
+use Rattle.wire.specs.Call.{Said, refusing, Served, lent}
 use Rattle.wire.proofs.Cases.{by-test, from-no, or-none}
 use Rattle.group.specs.Group.{Read, got, malformed}
 use Rattle.line_list.specs.Lines.{Line, lineList}
@@ -32,7 +33,7 @@ use Rattle.server_session.specs.declared.ServerAnswer.{ServerAnswer}
 use Rattle.server_session.specs.declared.ServerAnswer.the-variants as answer
 use Rattle.server_session.specs.declared.ServerSession.{ServerSession}
 use Rattle.server_session.specs.declared.ReplyStep.{ReplyStep}
-use Rattle.server_session.specs.Session.{Session, session, Said, refusing, Served, lent}
+use Rattle.server_session.specs.Session.{Session, session}
 use Rattle.server_session.specs.Replies.{isAt, answered, atAnswered, answerSays, isObd, lastAfter, repliedTo, replyRead, replySays, rejectSays, serverAnswer, replyServed}
 use Rattle.server_session.specs.Steps.{isSent, unlessRefused, rejected, keptAfter}
 
@@ -81,7 +82,7 @@ module _ (self : ServerSession) (ati device : List ℕ) (state : ClientState) (k
   at-sent {out} {left} {w} fits p =
       let same : answered (settings state) (chipReply (settings state .linefeeds) (kindLines ati device kind)) ≡ atAnswered (session self) ati device =
       λ t. answered (s t) (chipReply ((s t) .linefeeds) (kindLines ati device (k t))) in
-      let long = ap (λ (d : Said (Unit {0})). length (d .text)) same in
+      let long = ap (λ (d : Said Session (Unit {0})). length (d .text)) same in
       sent state (self .line) (chipReply (settings state .linefeeds) (kindLines ati device kind)) p (omega arith) ∙ ap (λ d. lent d out) same
 
 -- how long a reply of one line is, exactly
@@ -101,7 +102,7 @@ module _ (s : Session) (list : List ℕ) (out left : List ℕ) (turn : isObd (s 
   hd = s .state .headers
 
   -- a number leaves the session
-  abbrev numbered : ℕ → Served (Unit {0})
+  abbrev numbered : ℕ → Served Session (Unit {0})
   numbered n = record { answer = refused n; written = 0; next = s; out = left }
 
   in-turn : replySays (length out) s list ≡ replyRead (length out) s (lineList list)
@@ -170,36 +171,36 @@ module _ (s : Session) (list : List ℕ) (out left : List ℕ) (turn : isObd (s 
 
 -- By the answer that was found first: a number leaves the session, and what is sent is said.
 
-unless-sent : (a : Answer (Unit {0})) (s : Session) (d : Said (Unit {0})) → isSent a ≡ true → unlessRefused a s d ≡ d
+unless-sent : (a : Answer (Unit {0})) (s : Session) (d : Said Session (Unit {0})) → isSent a ≡ true → unlessRefused a s d ≡ d
 unless-sent (result u) s d e = refl
 unless-sent (refused n) s d e = from-no cc
 
-pub says-sent : (a : ServerAnswer) (s : Session) {x d : Said (Unit {0})} → x ≡ unlessRefused (serverAnswer a) s d → isSent (serverAnswer a) ≡ true → x ≡ d
+pub says-sent : (a : ServerAnswer) (s : Session) {x d : Said Session (Unit {0})} → x ≡ unlessRefused (serverAnswer a) s d → isSent (serverAnswer a) ≡ true → x ≡ d
 says-sent a s {d = d} q e = q ∙ unless-sent (serverAnswer a) s d e
 
-serves-refused : (a : Answer (Unit {0})) (s : Session) (d : Said (Unit {0})) (out : List ℕ) → isSent a ≡ false →
+serves-refused : (a : Answer (Unit {0})) (s : Session) (d : Said Session (Unit {0})) (out : List ℕ) → isSent a ≡ false →
     record { answer = a; written = 0; next = s; out = out } ≡ lent (unlessRefused a s d) out
 serves-refused (result u) s d out e = from-no cc
 serves-refused (refused n) s d out e = refl
 
-pub refused-served : (self : ServerSession) (a : ServerAnswer) {x : Said (Unit {0})} (d : Said (Unit {0})) (out : List ℕ) → x ≡ unlessRefused (serverAnswer a) (session self) d → isSent (serverAnswer a) ≡ false →
+pub refused-served : (self : ServerSession) (a : ServerAnswer) {x : Said Session (Unit {0})} (d : Said Session (Unit {0})) (out : List ℕ) → x ≡ unlessRefused (serverAnswer a) (session self) d → isSent (serverAnswer a) ≡ false →
     replyServed (record { answer = a; written = 0; session = self }) out ≡ lent x out
 refused-served self a d out q e = serves-refused (serverAnswer a) (session self) d out e ∙ ap (λ x. lent x out) (sym q)
 
 -- What the contracts give a caller: the bytes to send stand inside the lent buffer.
-record Short (room : ℕ) (d : Said (Unit {0})) : Type 0 where
+record Short (room : ℕ) (d : Said Session (Unit {0})) : Type 0 where
   fits : length (d .text) ≤ room
 
 short-number : {room : ℕ} (n : ℕ) (s : Session) → Short room (refusing n s)
 short-number n s = record { fits = omega arith }
 
-short-any : {room : ℕ} (b : Bool) {x y : Said (Unit {0})} → (b ≡ true → Short room x) → (b ≡ false → Short room y) → Short room (cond b x y)
+short-any : {room : ℕ} (b : Bool) {x y : Said Session (Unit {0})} → (b ≡ true → Short room x) → (b ≡ false → Short room y) → Short room (cond b x y)
 short-any true p q = p refl
 short-any false p q = q refl
 
-within : {d : Said (Unit {0})} (out left : List ℕ) (r : ReplyStep) → Short (length out) d → replyServed r left ≡ lent d out → r .written ≤ length out
+within : {d : Said Session (Unit {0})} (out left : List ℕ) (r : ReplyStep) → Short (length out) d → replyServed r left ≡ lent d out → r .written ≤ length out
 within {d} out left r h e =
-    let w : r .written ≡ length (d .text) = ap (λ (x : Served (Unit {0})). x .written) e in
+    let w : r .written ≡ length (d .text) = ap (λ (x : Served Session (Unit {0})). x .written) e in
     omega (arith, h .fits)
 
 answer-short : (room : ℕ) (s : Session) (ati device : List ℕ) → Short room (answerSays room s ati device)

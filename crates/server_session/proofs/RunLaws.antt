@@ -11,6 +11,7 @@ use lib.ListN.{length, take, drop, getD, set, replicate, length-replicate, lengt
 use lib.Seq.{sets, take-suc, take-suc-set, getD-drop, drop-drop, drop-cons}
 use borrow.Author.Tests.{eqb-true, eqb-false}
 use Rattle.wire.specs.Answer.{result}
+use Rattle.wire.specs.Call.{Said}
 use Rattle.wire.specs.Put.{Put}
 use Rattle.client_state.specs.Settings.{Settings}
 use Rattle.wire.specs.Text.{any}
@@ -22,7 +23,7 @@ use Rattle.server_session.specs.declared.Flags.{Flags}
 use Rattle.server_session.specs.declared.Did.{Did}
 use Rattle.server_session.specs.declared.Turn.{Turn}
 use Rattle.server_session.specs.declared.Run.{Run}
-use Rattle.server_session.specs.Session.{Session, isReading, Said}
+use Rattle.server_session.specs.Session.{Session, isReading}
 use Rattle.server_session.specs.Bytes.{withLine, echoes, byteSays, byteAnswer, Heard, bytesSay, ServedBytes, lentBytes}
 use Rattle.server_session.specs.Steps.{Does, Serves, Shows, shown, goesOn, isSpecial, RunFits, Ran, Joins}
 use Rattle.server_session.proofs.ByteLaws.{reading, text-short}
@@ -178,12 +179,12 @@ module _ (t : Turn) (state : Settings) (line input out : List ℕ) (i at : ℕ) 
 
 -- A turn of the loop: the byte after it
 
-pub one-most : {d : Said Phase} {state : Settings} {line out out₁ : List ℕ} {at : ℕ} {r : Did} → Does d state line out at r out₁ → r .taken ≤ 1
+pub one-most : {d : Said Session Phase} {state : Settings} {line out out₁ : List ℕ} {at : ℕ} {r : Did} → Does d state line out at r out₁ → r .taken ≤ 1
 one-most {d} q = omega (arith, q .taken, counted-most (d .answer))
 
 module _ (t : Turn) (state : Settings) (line input out : List ℕ) (i at : ℕ) (r : Did) (l o : List ℕ)
     (inside : at ≤ length out) (here : i < length input) (does : Does (byteSays (length out - at) (shown t state line) (getD input i 0)) state l out at r o) where
-  abbrev said : Said Phase
+  abbrev said : Said Session Phase
   said = byteSays (length out - at) (shown t state line) (getD input i 0)
 
   fit : at + length (said .text) ≤ length out

@@ -8,6 +8,7 @@ use native.Mathlib.Omega.{arith}
 use lib.ListN.{length, take, set, length-take}
 use lib.Seq.{take-suc-set}
 use Rattle.wire.specs.Answer.{result, refused}
+use Rattle.wire.specs.Call.{Said, lent}
 use Rattle.wire.specs.Put.{Put}
 use Rattle.wire.specs.Text.{ascii}
 use Rattle.client_state.specs.Settings.{Settings, settings}
@@ -23,7 +24,7 @@ use Rattle.server_session.specs.declared.Did.{Did}
 use Rattle.server_session.specs.declared.ServerSession.{ServerSession}
 use Rattle.server_session.specs.declared.ByteAnswer.{ByteAnswer}
 use Rattle.server_session.specs.declared.ByteAnswer.the-variants as answer
-use Rattle.server_session.specs.Session.{Session, session, Said, lent}
+use Rattle.server_session.specs.Session.{Session, session}
 use Rattle.server_session.specs.Bytes.{canonical, byteNumber, withLine, echoed, commandPhase, emptyLine, lineEnd, byteSays, byteAnswer, byteServed, ServedBytes, bytesServed}
 use Rattle.server_session.specs.Steps.{Does, Serves, Shows, shown, left, numbered, goesOn}
 use Rattle.server_session.proofs.ByteLaws.{number-none, numbered-on, numbered-off, says-taken, says-refused, empty-none, empty-last, line-empty, line-command, afterText, taken-cr, taken-lf, taken-plain}
@@ -36,7 +37,7 @@ pub line-cut : (n : ℕ) (line : List ℕ) → length line ≡ 128 → take (min
 line-cut n line k = rw (← line-size n line k) (take-cut n line)
 
 -- a text is put, and a step goes on after it
-pub does-after : {d : Said Phase} {state : Settings} {line e out o₁ left : List ℕ} {at a : ℕ} {r : Did} → Put out at e a o₁ → Does d state line o₁ a r left → Does (afterText e d) state line out at r left
+pub does-after : {d : Said Session Phase} {state : Settings} {line e out o₁ left : List ℕ} {at a : ℕ} {r : Did} → Put out at e a o₁ → Does d state line o₁ a r left → Does (afterText e d) state line out at r left
 does-after p q = record { answer = q .answer; taken = q .taken; next = q .next; text = put-then p (q .text); plain = q .plain; again = q .again }
 
 -- the end of an empty line
@@ -128,7 +129,7 @@ module _ (self : ServerSession) (d : Did) (line : List ℕ) (again : d .repeat �
   left-line e q = ap (λ (x : ServerSession). session (record { state = x .state; line = x .line; turn = d .turn })) q ∙ rw e
 
 -- a byte from the front of the buffer on, whose text fits
-pub does-lent : {d : Said Phase} {state : Settings} {line out o : List ℕ} {r : Did} (s : ServerSession) → length (d .text) ≤ length out → Does d state line out 0 r o → session s ≡ left r state line →
+pub does-lent : {d : Said Session Phase} {state : Settings} {line out o : List ℕ} {r : Did} (s : ServerSession) → length (d .text) ≤ length out → Does d state line out 0 r o → session s ≡ left r state line →
     byteServed (record { answer = r .answer; written = r .at; session = s }) o ≡ lent d out
 does-lent {d} {r = r} s h q e =
     let w : r .at ≡ length (d .text) = omega (arith, put-whole (q .text) (omega arith)) in

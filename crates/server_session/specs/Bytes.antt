@@ -8,6 +8,7 @@ use lib.Dec.{eqb, ltb, leb}
 use lib.ListN.{length}
 use lib.Seq.{sets}
 use Rattle.wire.specs.Answer.{Answer, result, refused}
+use Rattle.wire.specs.Call.{Said, saying, refusing, Served}
 use Rattle.wire.specs.Text.{ascii, begins, isSpace, raised}
 use Rattle.client_state.specs.Settings.{Settings}
 use Rattle.reply.specs.Shape.{chipReply}
@@ -17,7 +18,7 @@ use Rattle.server_session.specs.declared.ByteAnswer.{ByteAnswer}
 use Rattle.server_session.specs.declared.ByteAnswer.the-variants as answer
 use Rattle.server_session.specs.declared.ByteStep.{ByteStep}
 use Rattle.server_session.specs.declared.BytesStep.{BytesStep}
-use Rattle.server_session.specs.Session.{Session, session, isReading, Said, saying, refusing, Served}
+use Rattle.server_session.specs.Session.{Session, session, isReading}
 
 -- the command of a line
 unfoldable pub canonical : List ℕ → List ℕ
@@ -49,24 +50,24 @@ abbrev pub commandPhase : List ℕ → Phase
 commandPhase c = cond (begins c (ascii "AT")) phase.AtCommand phase.ObdCommand
 
 -- an empty line, by the last command
-abbrev pub emptyLine : Session → List ℕ → List ℕ → Said Phase
+abbrev pub emptyLine : Session → List ℕ → List ℕ → Said Session Phase
 emptyLine s e [] = saying phase.Reading (withLine s [] phase.Reading) (e ++ chipReply (s .state .linefeeds) (ascii "?" ∷ []))
 emptyLine s e (c ∷ last) = saying phase.ObdCommand (withLine s (c ∷ last) phase.ObdCommand) e
 
 -- CR, by the line's command
-abbrev pub lineEnd : Session → List ℕ → List ℕ → Said Phase
+abbrev pub lineEnd : Session → List ℕ → List ℕ → Said Session Phase
 lineEnd s e [] = emptyLine s e (s .state .last)
 lineEnd s e (c ∷ cs) = saying (commandPhase (c ∷ cs)) (withLine s (c ∷ cs) (commandPhase (c ∷ cs))) e
 
 -- a byte that gets no number
-unfoldable pub byteTaken : Session → ℕ → Said Phase
+unfoldable pub byteTaken : Session → ℕ → Said Session Phase
 byteTaken s b =
     cond (eqb b 13) (lineEnd s (echoed s b) (canonical (s .line)))
     (cond (eqb b 10) (saying phase.Reading s (echoed s b))
     (saying phase.Reading (withLine s (s .line ++ (b ∷ [])) phase.Reading) (echoed s b)))
 
 -- a byte: the result is the phase that the session is then in
-unfoldable pub byteSays : ℕ → Session → ℕ → Said Phase
+unfoldable pub byteSays : ℕ → Session → ℕ → Said Session Phase
 byteSays room s b = cond (eqb (byteNumber room s b) 0) (byteTaken s b) (refusing (byteNumber room s b) s)
 
 -- the cases of ByteAnswer
@@ -79,7 +80,7 @@ byteAnswer answer.SmallBuffer = refused 6
 byteAnswer answer.NotAscii = refused 11
 byteAnswer answer.LineFull = refused 10
 
-abbrev pub byteServed : ByteStep → List ℕ → Served Phase
+abbrev pub byteServed : ByteStep → List ℕ → Served Session Phase
 byteServed r out = record { answer = byteAnswer (r .answer); written = r .written; next = session (r .session); out = out }
 
 -- What several bytes say: the answer to the last one looked at, how many were taken, the next session, and the bytes to send.
@@ -89,11 +90,11 @@ pub record Heard : Type 0 where
   pub next : Session
   pub text : List ℕ
 
-abbrev pub onward : Said Phase → Heard → Heard
+abbrev pub onward : Said Session Phase → Heard → Heard
 onward d h = record { answer = h .answer; taken = suc (h .taken); next = h .next; text = d .text ++ h .text }
 
 -- by what the first byte says: the next one is looked at while the line is read; a command or a number stops
-abbrev pub stopOr : Session → Said Phase → Answer Phase → Heard → Heard
+abbrev pub stopOr : Session → Said Session Phase → Answer Phase → Heard → Heard
 stopOr s d (refused n) h = record { answer = refused n; taken = 0; next = s; text = [] }
 stopOr s d (result phase.Reading) h = onward d h
 stopOr s d (result phase.AtCommand) h = record { answer = d .answer; taken = 1; next = d .next; text = d .text }

@@ -6,6 +6,7 @@ use Prim.Native.Nat.{ℕ}
 use lib.Dec.{eqb, ltb}
 use lib.ListN.{length}
 use Rattle.wire.specs.Answer.{Answer, result, refused}
+use Rattle.wire.specs.Call.{Said, saying, refusing, Served}
 use Rattle.wire.specs.Text.{high}
 use Rattle.client_state.specs.Settings.{Settings, withLast}
 use Rattle.group.specs.Group.{Read, got, malformed}
@@ -18,7 +19,7 @@ use Rattle.server_session.specs.declared.Phase.the-variants.{Reading, At
 use Rattle.server_session.specs.declared.ServerAnswer.{ServerAnswer}
 use Rattle.server_session.specs.declared.ServerAnswer.the-variants as answer
 use Rattle.server_session.specs.declared.ReplyStep.{ReplyStep}
-use Rattle.server_session.specs.Session.{Session, session, Said, saying, refusing, Served}
+use Rattle.server_session.specs.Session.{Session, session}
 
 -- "an answer needs one of its kind"
 abbrev pub isAt : Phase → Bool
@@ -32,17 +33,17 @@ isObd AtCommand = false
 isObd ObdCommand = true
 
 -- the command is answered, and the next line is awaited
-abbrev pub answered : Settings → List ℕ → Said (Unit {0})
+abbrev pub answered : Settings → List ℕ → Said Session (Unit {0})
 answered s text = saying tt (record { state = s; line = []; phase = Reading }) text
 
-abbrev pub atAnswered : Session → List ℕ → List ℕ → Said (Unit {0})
+abbrev pub atAnswered : Session → List ℕ → List ℕ → Said Session (Unit {0})
 atAnswered s ati device =
     let kind = atKind (s .line) in
     let next = kindSettings kind (s .state) in
     answered next (chipReply (next .linefeeds) (kindLines ati device kind))
 
 -- an AT answer: 1, 3 for an identity string over 32 bytes, 4 for a byte of 80 or more in one, 6 for room under 48
-unfoldable pub answerSays : ℕ → Session → List ℕ → List ℕ → Said (Unit {0})
+unfoldable pub answerSays : ℕ → Session → List ℕ → List ℕ → Said Session (Unit {0})
 answerSays room s ati device =
     cond (isAt (s .phase))
     (cond (ltb 32 (length ati) || ltb 32 (length device)) (refusing 3 s)
@@ -51,7 +52,7 @@ answerSays room s ati device =
     (refusing 1 s)
 
 -- 6 exactly when the text is longer than the room
-abbrev pub ifRoom : ℕ → Session → Said (Unit {0}) → Said (Unit {0})
+abbrev pub ifRoom : ℕ → Session → Said Session (Unit {0}) → Said Session (Unit {0})
 ifRoom room s d = cond (ltb room (length (d .text))) (refusing 6 s) d
 
 -- the last command after a reply: with no lines it remains
@@ -60,18 +61,18 @@ lastAfter [] s = s .state
 lastAfter (l ∷ ls) s = withLast (s .state) (s .line)
 
 -- a reply: 1, 5, 6
-abbrev pub repliedTo : Session → List Line → Said (Unit {0})
+abbrev pub repliedTo : Session → List Line → Said Session (Unit {0})
 repliedTo s ls = answered (lastAfter ls s) (replyText (s .state .linefeeds) (s .state .spaces) (s .state .headers) ls)
 
-abbrev pub replyRead : ℕ → Session → Read (List Line) → Said (Unit {0})
+abbrev pub replyRead : ℕ → Session → Read (List Line) → Said Session (Unit {0})
 replyRead room s malformed = refusing 5 s
 replyRead room s (got ls rest) = ifRoom room s (repliedTo s ls)
 
-unfoldable pub replySays : ℕ → Session → List ℕ → Said (Unit {0})
+unfoldable pub replySays : ℕ → Session → List ℕ → Said Session (Unit {0})
 replySays room s list = cond (isObd (s .phase)) (replyRead room s (lineList list)) (refusing 1 s)
 
 -- a rejection: 1, 3 over 64 bytes, 4, 6
-unfoldable pub rejectSays : ℕ → Session → List ℕ → Said (Unit {0})
+unfoldable pub rejectSays : ℕ → Session → List ℕ → Said Session (Unit {0})
 rejectSays room s text =
     cond (isObd (s .phase))
     (cond (ltb 64 (length text)) (refusing 3 s)
@@ -88,5 +89,5 @@ serverAnswer answer.NotAscii = refused 4
 serverAnswer answer.Malformed = refused 5
 serverAnswer answer.SmallBuffer = refused 6
 
-abbrev pub replyServed : ReplyStep → List ℕ → Served (Unit {0})
+abbrev pub replyServed : ReplyStep → List ℕ → Served Session (Unit {0})
 replyServed r out = record { answer = serverAnswer (r .answer); written = r .written; next = session (r .session); out = out }

@@ -6,6 +6,7 @@ use Prim.Native.Nat.{ℕ, _+_, _-_, _≤_, _<_, min}
 use lib.Dec.{eqb, leb}
 use lib.ListN.{length, take, drop}
 use Rattle.wire.specs.Answer.{Answer, result, refused}
+use Rattle.wire.specs.Call.{Said, refusing}
 use Rattle.wire.specs.Put.{Put}
 use Rattle.wire.specs.Text.{any}
 use Rattle.client_state.specs.Settings.{Settings, withLast}
@@ -16,7 +17,7 @@ use Rattle.server_session.specs.declared.Turn.{Turn}
 use Rattle.server_session.specs.declared.Flags.{Flags}
 use Rattle.server_session.specs.declared.Did.{Did}
 use Rattle.server_session.specs.declared.Run.{Run}
-use Rattle.server_session.specs.Session.{Session, isReading, Said, refusing}
+use Rattle.server_session.specs.Session.{Session, isReading}
 use Rattle.server_session.specs.Bytes.{byteAnswer, ServedBytes}
 use Rattle.server_session.specs.Replies.{answered}
 
@@ -47,7 +48,7 @@ abbrev pub left : Did → Settings → List ℕ → Session
 left d state line = record { state = state; line = cond (d .repeat) (state .last) (take (d .turn .len) line); phase = d .turn .phase }
 
 -- A byte that writes from a position of the out buffer on does what is said. Where the last command is repeated it is the line, and no more bytes are looked at.
-pub record Does (d : Said Phase) (state : Settings) (line out : List ℕ) (at : ℕ) (r : Did) (out₁ : List ℕ) : Type 0 where
+pub record Does (d : Said Session Phase) (state : Settings) (line out : List ℕ) (at : ℕ) (r : Did) (out₁ : List ℕ) : Type 0 where
   pub answer : byteAnswer (r .answer) ≡ d .answer
   pub taken : r .taken ≡ counted (d .answer)
   pub next : left r state line ≡ d .next
@@ -102,12 +103,12 @@ isSent (result u) = true
 isSent (refused n) = false
 
 -- a number, or else what is said
-abbrev pub unlessRefused : Answer (Unit {0}) → Session → Said (Unit {0}) → Said (Unit {0})
+abbrev pub unlessRefused : Answer (Unit {0}) → Session → Said Session (Unit {0}) → Said Session (Unit {0})
 unlessRefused (result u) s d = d
 unlessRefused (refused n) s d = refusing n s
 
 -- a text rejects the command
-abbrev pub rejected : Session → List ℕ → Said (Unit {0})
+abbrev pub rejected : Session → List ℕ → Said Session (Unit {0})
 rejected s text = answered (s .state) (chipReply (s .state .linefeeds) (text ∷ []))
 
 -- the settings after a reply with a line list of some bytes

@@ -10,9 +10,10 @@ ghost use Prim.Native.Nat.{ℕ, _+_, _-_, _≤_, min};
 ghost use lib.Dec.{eqb, leb};
 ghost use lib.ListN.{length, take};
 ghost use Rattle.wire.specs.Answer.{result};
+ghost use Rattle.wire.specs.Call.{lent};
 ghost use Rattle.wire.specs.Put.{Put};
 ghost use Rattle.client_state.specs.Settings.{Settings};
-ghost use Rattle.server_session.specs.Session.{Session, session, freshSession, isReading, lent};
+ghost use Rattle.server_session.specs.Session.{Session, session, freshSession, isReading};
 ghost use Rattle.server_session.specs.Bytes.{canonical, byteNumber, commandPhase, emptyLine, lineEnd, byteTaken, byteSays, byteAnswer, byteServed, bytesSay, bytesServed, lentBytes};
 ghost use Rattle.server_session.specs.Steps.{Does, numbered, goesOn, isSpecial, Shows, shown, Serves, RunFits, RanTo, Joins};
 

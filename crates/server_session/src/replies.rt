@@ -12,10 +12,11 @@ ghost use mathlib.Core.Bool.{Bool};
 ghost use mathlib.Core.List.{List, [], _∷_};
 ghost use Prim.Native.Nat.{ℕ, _≤_};
 ghost use lib.ListN.{length, take};
+ghost use Rattle.wire.specs.Call.{lent};
 ghost use Rattle.client_state.specs.Settings.{settings, withLast};
 ghost use Rattle.reply.specs.Shape.{chipReply};
 ghost use Rattle.at_command.specs.Dialect.{atKind, kindSettings};
-ghost use Rattle.server_session.specs.Session.{Session, session, lent};
+ghost use Rattle.server_session.specs.Session.{Session, session};
 ghost use Rattle.server_session.specs.Replies.{isAt, isObd, serverAnswer, answerSays, atAnswered, replySays, rejectSays, replyServed};
 ghost use Rattle.server_session.specs.Steps.{isSent, unlessRefused, rejected};
 

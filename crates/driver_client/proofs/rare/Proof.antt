@@ -1,9 +1,10 @@
 -- `driver_client::rare` meets its contract.
+use Rattle.wire.specs.Call.{lent}
 use Rattle.driver_client.proofs.CallLaws.{with, client-state}
 use Rattle.driver_log.proofs.LogLaws.{noted-is, answered-is}
 use Rattle.driver_client.specs.Client.{startNoted, pieceNoted, rareCall, clientAt}
 use Rattle.client_session.specs.Start.{queryPidsSays}
-use Rattle.client_session.specs.Session.{client, lent}
+use Rattle.client_session.specs.Session.{client}
 use lib.ListN.{length, drop}
 use Prim.Native.Nat.{suc}
 use mathlib.Core.Path.{sym, ap, _∙_}

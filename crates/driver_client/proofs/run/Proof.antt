@@ -5,8 +5,9 @@ use Prim.Native.Nat.{ℕ, _+_, _-_, _≤_, _<_}
 use native.Mathlib.Omega.{arith}
 use lib.ListN.{length, take, drop, getD}
 use borrow.Author.Needs.{needs}
+use Rattle.wire.specs.Call.{lent}
 use Rattle.query.specs.Query.{countOf}
-use Rattle.client_session.specs.Session.{client, lent}
+use Rattle.client_session.specs.Session.{client}
 use Rattle.client_session.specs.Start.{queryPidSays}
 use Rattle.driver_log.specs.Script.{calls}
 use Rattle.driver_client.specs.Client.{Stored, clientCall, clientAt, startNoted, pieceNoted, finishNoted}

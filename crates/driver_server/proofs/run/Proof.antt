@@ -5,7 +5,8 @@ use Prim.Native.Nat.{ℕ, _+_, _-_, _≤_, _<_}
 use native.Mathlib.Omega.{arith}
 use lib.ListN.{length, take, drop, getD}
 use borrow.Author.Needs.{needs}
-use Rattle.server_session.specs.Session.{Session, session, lent}
+use Rattle.wire.specs.Call.{lent}
+use Rattle.server_session.specs.Session.{Session, session}
 use Rattle.server_session.specs.Bytes.{byteSays}
 use Rattle.driver_log.specs.Log.{Turn}
 use Rattle.driver_log.specs.Script.{calls}

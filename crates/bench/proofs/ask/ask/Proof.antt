@@ -1,14 +1,15 @@
 -- `bench::ask::ask` meets its contract.
 use mathlib.Core.Path.{sym, _∙_}
+use Rattle.wire.specs.Call.{Said}
 use Rattle.bench.proofs.AskLaws.{start-fits, start-size, start-inside, ask-does}
-use Rattle.client_session.specs.Session.{Said, client}
+use Rattle.client_session.specs.Session.{Client, client}
 use Rattle.bench.specs.Run.{startSays}
 use borrow.Author.Needs.{needs}
 use Rattle.bench.proofs.ask.ask.Statement.{statement}
 use Rattle.bench.proofs.ask.ask.Tie as tie
 
 -- what the start says
-abbrev says : tie.Start → Said (Unit {0})
+abbrev says : tie.Start → Said Client (Unit {0})
 says s = startSays (client (s .args .bench .client)) (s .args .pids .now) (s .args .count)
 
 start-requires : tie.Need-start-requires
