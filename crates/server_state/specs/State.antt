@@ -45,9 +45,6 @@ countIn counts pid = learned (getD counts pid 0)
 
 -- ---- parts changed
 
-abbrev pub withFraming : ServerState → Bool → ServerState
-withFraming s b = record { framing = b; repeat = s .repeat; «multi_pid» = s .«multi_pid»; «pid_lengths» = s .«pid_lengths»; «ecu_counts» = s .«ecu_counts» }
-
 abbrev pub withRepeat : ServerState → FeatureSupport → ServerState
 withRepeat s r = record { framing = s .framing; repeat = r; «multi_pid» = s .«multi_pid»; «pid_lengths» = s .«pid_lengths»; «ecu_counts» = s .«ecu_counts» }
 

@@ -4,7 +4,7 @@ use query::EcuCount;
 ghost use mathlib.Core.Path.{_≡_};
 ghost use Rattle.pid.specs.Lengths.{dataLength, lengthIn};
 ghost use Rattle.query.specs.Query.{countOf};
-ghost use Rattle.server_state.specs.State.{supportAtFirst, decided, mayTry, fresh, countIn, withFraming, withRepeat, withMulti};
+ghost use Rattle.server_state.specs.State.{supportAtFirst, decided, mayTry, fresh, countIn, withRepeat, withMulti};
 
 // Whether the peer supports an optional feature.
 pub enum FeatureSupport {
@@ -111,13 +111,6 @@ impl ServerState {
     {
         let lengths = self.pid_lengths;
         pid::data_length(&lengths, pid)
-    }
-
-    pub fn with_framing(mut self, framing: bool) -> ServerState
-        ensures { λ r. ⌜ r ≡ withFraming self framing ⌝ }
-    {
-        self.framing = framing;
-        self
     }
 
     pub fn with_repeat(self, repeat: FeatureSupport) -> ServerState
