@@ -1,5 +1,5 @@
-//! Cases whose logs are written by hand from document 01: its numbers, at their limits from both sides, with what each leaves in the session. No log here comes from
-//! the Rust or from this library. The state is shown before the first call and after each.
+//! Cases whose logs are written by hand from document 01: its numbers, at their limits from both sides, with what each leaves in the session. No log here is
+//! taken from the Rust's answers or from this library's. The state is shown before the first call and after each.
 use crate::driver::{client, server, Script};
 use crate::every::WORKED;
 use crate::plan::{put_call, put_number, put_text};
