@@ -134,6 +134,10 @@ impl<'a> Log<'a> {
         Answer { code: self.byte(), count: self.number(), sent: self.text() }
     }
 
+    pub fn left(&self) -> &'a [u8] {
+        self.left
+    }
+
     pub fn is_read(&self) -> bool {
         self.left.is_empty()
     }

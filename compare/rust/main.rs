@@ -1,5 +1,6 @@
 //! The Rust library beside the Rattle one: the same sessions through both.
 mod bench;
+mod by_hand;
 mod client;
 mod driver;
 mod every;

@@ -243,16 +243,16 @@ fn check_entry(
 }
 
 /// What stands in a log: numbers of two bytes, the lower first, and texts after their lengths.
-fn put_number(to: &mut Vec<u8>, n: usize) {
+pub fn put_number(to: &mut Vec<u8>, n: usize) {
     to.extend_from_slice(&u16::try_from(n).expect("a number of two bytes").to_le_bytes());
 }
 
-fn put_text(to: &mut Vec<u8>, text: &[u8]) {
+pub fn put_text(to: &mut Vec<u8>, text: &[u8]) {
     put_number(to, text.len());
     to.extend_from_slice(text);
 }
 
-fn put_call(to: &mut Vec<u8>, code: u8, count: usize, sent: &[u8]) {
+pub fn put_call(to: &mut Vec<u8>, code: u8, count: usize, sent: &[u8]) {
     to.push(code);
     put_number(to, count);
     put_text(to, sent);

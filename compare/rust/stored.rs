@@ -1,8 +1,9 @@
-//! The stored list: chosen cases with the logs that the Rust's answers give, for the program `replay`.
+//! The stored list: chosen cases with the logs that the Rust's answers give, and those of `by_hand`, for the program `replay`.
+use crate::by_hand::{by_hand, Written};
 use crate::client::{Call, ClientCase, Start};
-use crate::driver::Driver;
+use crate::driver::{Driver, Script};
 use crate::every::{self, asked, bench, call, line, piece, query, raw, reader, session, split, Take};
-use crate::plan::Plan;
+use crate::plan::{shown, Plan};
 use crate::random;
 use crate::rng::Rng;
 use crate::run::{script, Query, RunCase};
@@ -13,9 +14,12 @@ use std::process::exit;
 
 /// The kinds of entries.
 const HEADING: u8 = 0;
-const SERVER: u8 = 1;
-const CLIENT: u8 = 2;
-const RUN: u8 = 6;
+pub const SERVER: u8 = 1;
+pub const CLIENT: u8 = 2;
+pub const RUN: u8 = 6;
+
+/// The bytes that `replay` reads at most.
+const ROOM: usize = 196_608;
 
 /// The list as it is written, and what `replay` prints of it when nothing differs.
 pub struct Store {
@@ -86,6 +90,25 @@ impl Store {
             self.passed -= 1;
         }
     }
+
+    /// Takes a case with the log that is written by hand, which must be ours.
+    fn written(&mut self, Written { name, kind, room, script, log }: &Written) {
+        let none = Script::default();
+        let ours = match *kind {
+            SERVER => self.driver.server(script, 0, &none),
+            RUN.. => self.driver.bench(*kind != RUN, &script.bytes, &[], *room),
+            kind => self.driver.client((kind - CLIENT) % 2 == 1, 2 <= kind - CLIENT, script, 0, &none),
+        }
+        .left();
+        if ours != log {
+            let agreed = ours.iter().zip(log).take_while(|(ours, log)| ours == log).count();
+            let heading = self.heading.expect("a heading").0;
+            println!("different, {heading}, {name}:\n  from byte {agreed} on, by hand {}\n  Rattle gives {}", shown(&log[agreed..]), shown(&ours[agreed..]));
+            exit(1);
+        }
+        self.entry(*kind, *room, &[], &script.bytes, log);
+        self.heading.as_mut().expect("a heading").1 += 1;
+    }
 }
 
 impl Take for Store {
@@ -118,7 +141,7 @@ enum Card {
     Server(ServerCase),
 }
 
-/// The thirteen cards, with their numbers and their stars. Of card 13 the Rust has the halves that pass: it gives no 2 and no 10.
+/// The thirteen cards, with their numbers and their stars. Of card 13 the Rust has the halves that pass: it gives no 2 and no 10, which stand in `by_hand`.
 fn cards() -> Vec<(u8, bool, Card)> {
     const STARRED: bool = true;
     const PLAIN: bool = false;
@@ -406,6 +429,11 @@ pub fn stored() -> Store {
     random_cases(&mut to, "random client sessions", 30, 600, |to, rng| to.client(random::client(rng)));
     random_cases(&mut to, "random server sessions", 30, 700, |to, rng| to.server(random::server(rng)));
     random_cases(&mut to, "random bench runs", 25, 500, |to, rng| to.run(random::run(rng)));
+    for (name, cases) in by_hand() {
+        to.head(name, 1, 0);
+        cases.iter().for_each(|case| to.written(case));
+    }
     to.end();
+    assert!(to.list.len() <= ROOM, "the list is longer than the program's buffer");
     to
 }

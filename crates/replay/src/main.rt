@@ -1,6 +1,7 @@
-// Replays the sessions and bench runs of a stored list, from standard input, and holds each log to the one that the Rust's answers gave. compare/README.md says how
-// the list is made. An entry is a byte for its kind, four numbers of two bytes, the lower first, and three texts. The numbers are the size of the record buffer and the lengths of the texts:
-// piece lengths, script, and stored log. Kind 0 is a heading, which is the third text.
+// Replays the sessions and bench runs of a stored list, from standard input, and holds each log to the stored one: what the Rust's answers gave, or what document 01
+// asks for, written by hand. compare/README.md says how the list is made. An entry is a byte for its kind, four numbers of two bytes, the lower first, and three
+// texts. The numbers are the size of the record buffer and the lengths of the texts: piece lengths, script, and stored log. Kind 0 is a heading, which is the third
+// text.
 use libc::STDIN_FILENO;
 use libc::STDOUT_FILENO;
 ghost use mathlib.Core.Path.{_≡_};

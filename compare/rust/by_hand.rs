@@ -1,0 +1,677 @@
+//! Cases whose logs are written by hand from document 01: its numbers, at their limits from both sides, with what each leaves in the session. No log here is
+//! taken from the Rust's answers or from this library's. The state is shown before the first call and after each.
+use crate::driver::{client, server, Script};
+use crate::every::WORKED;
+use crate::plan::{put_call, put_number, put_text};
+use crate::stored::{CLIENT, RUN, SERVER};
+
+/// A case: what is run, in the terms of the stored list, and its log.
+pub struct Written {
+    pub name: &'static str,
+    pub kind: u8,
+    pub room: usize,
+    pub script: Script,
+    pub log: Vec<u8>,
+}
+
+/// What a call answers: its code, the count that belongs to it, and the bytes to send.
+type Said = (u8, usize, Vec<u8>);
+
+fn number(n: u8) -> Said {
+    (n, 0, Vec::new())
+}
+
+fn sent(text: &[u8]) -> Said {
+    (64, 0, text.to_vec())
+}
+
+/// So many values.
+fn values(count: usize, values: &[u8]) -> Said {
+    (64, count, values.to_vec())
+}
+
+/// More of a reply is awaited.
+fn awaited() -> Said {
+    sent(b"")
+}
+
+/// A reply is complete, and the next command goes out.
+fn next(text: &[u8]) -> Said {
+    (65, 0, text.to_vec())
+}
+
+/// The initialisation or the raw command is over.
+fn over() -> Said {
+    (66, 0, Vec::new())
+}
+
+/// A query's reply is complete.
+fn complete() -> Said {
+    (67, 0, Vec::new())
+}
+
+/// A byte of a reader is taken, and these are sent back.
+fn taken(sent: &[u8]) -> Said {
+    (64, 0, sent.to_vec())
+}
+
+/// The byte ended an OBD command.
+fn handed(sent: &[u8]) -> Said {
+    (66, 0, sent.to_vec())
+}
+
+/// A state as a log shows it.
+trait State {
+    /// The argument of the entry that shows it.
+    const SHOWN: &'static [u8];
+    fn put(&self, log: &mut Vec<u8>);
+}
+
+/// What is under way at a client.
+const NOTHING: u8 = 0;
+const RESET: u8 = 1;
+const SETUP: u8 = 2;
+const RAW: u8 = 3;
+const QUERY: u8 = 4;
+const REPEAT: u8 = 5;
+const COMPLETE: u8 = 6;
+
+/// Repeat and multi-PID support.
+const UNKNOWN: u8 = 0;
+const YES: u8 = 1;
+const NO: u8 = 2;
+
+/// A client session, with the count of 0C and 1, 0 when not learned.
+struct Client {
+    framing: bool,
+    repeat: u8,
+    multi: u8,
+    under: u8,
+    last: &'static [u8],
+    count: usize,
+}
+
+impl State for Client {
+    const SHOWN: &'static [u8] = &[0x0C];
+
+    fn put(&self, log: &mut Vec<u8>) {
+        log.extend([u8::from(self.framing), self.repeat, self.multi, self.under]);
+        put_text(log, self.last);
+        // The table's length of 0C.
+        put_number(log, 2);
+        put_number(log, self.count);
+    }
+}
+
+/// What a server has handed out.
+const READING: u8 = 0;
+const AT: u8 = 1;
+const OBD: u8 = 2;
+
+/// A server session: the line as far as it is read, or the command handed out.
+struct Server {
+    echo: bool,
+    linefeeds: bool,
+    headers: bool,
+    phase: u8,
+    last: Vec<u8>,
+    line: Vec<u8>,
+}
+
+impl State for Server {
+    const SHOWN: &'static [u8] = &[];
+
+    fn put(&self, log: &mut Vec<u8>) {
+        // No case turns spaces off.
+        log.extend([self.echo, self.linefeeds, true, self.headers].map(u8::from));
+        log.push(self.phase);
+        put_text(log, &self.last);
+        put_text(log, &self.line);
+    }
+}
+
+/// A session's calls so far, their log, and the state that they leave.
+struct Session<S> {
+    kind: u8,
+    script: Script,
+    log: Vec<u8>,
+    now: S,
+}
+
+impl<S: State> Session<S> {
+    fn new(kind: u8, now: S) -> Self {
+        Session { kind, script: Script::default(), log: Vec::new(), now }.shown()
+    }
+
+    fn shown(mut self) -> Self {
+        self.script.look(client::STATE, S::SHOWN);
+        self.now.put(&mut self.log);
+        self
+    }
+
+    /// A call, what it answers, and what it changes.
+    fn call(mut self, kind: u8, argument: &[u8], (code, count, sent): Said, change: impl Fn(&mut S)) -> Self {
+        self.script.call(kind, argument);
+        put_call(&mut self.log, code, count, &sent);
+        change(&mut self.now);
+        self.shown()
+    }
+
+    /// A call that gets a number and leaves the session as it was.
+    fn refused(self, kind: u8, argument: &[u8], n: u8) -> Self {
+        self.call(kind, argument, number(n), |_| {})
+    }
+
+    fn case(self, name: &'static str) -> Written {
+        Written { name, kind: self.kind, room: 0, script: self.script, log: self.log }
+    }
+}
+
+/// The reply `41 0C 1A F8`, unframed, and the value of 0C that it gives.
+const REPLY: &[u8] = b"41 0C 1A F8\r\r>";
+const VALUE: &[u8] = &[0x0C, 0x00, 0x04, 0x41, 0x0C, 0x1A, 0xF8];
+
+/// The failures that get 7.
+const FAILURES: [u8; 3] = [client::FAILED_READ, client::FAILED_WRITE, client::PIECE];
+
+/// A fresh client session.
+fn fresh(framing: bool, repeat: bool) -> Session<Client> {
+    let now = Client { framing: false, repeat: if repeat { UNKNOWN } else { NO }, multi: UNKNOWN, under: NOTHING, last: b"", count: 0 };
+    Session::new(CLIENT + u8::from(framing) + 2 * u8::from(repeat), now)
+}
+
+impl Session<Client> {
+    /// A start sends these bytes.
+    fn start(self, kind: u8, argument: &[u8], text: &[u8], under: u8) -> Self {
+        self.call(kind, argument, sent(text), |c| c.under = under)
+    }
+
+    fn query(self) -> Self {
+        self.start(client::QUERY_PID, &[0x0C], b"010C\r", QUERY)
+    }
+
+    fn repeat(self) -> Self {
+        self.start(client::QUERY_PID, &[0x0C], b"\r", REPEAT)
+    }
+
+    /// A raw command, which forgets the last query.
+    fn raw(self, command: &[u8]) -> Self {
+        self.call(client::COMMAND, command, sent(&[command, b"\r"].concat()), |c| (c.under, c.last) = (RAW, b""))
+    }
+
+    fn init(self) -> Self {
+        self.start(client::INIT, &[], b"ATZ\r", RESET)
+    }
+
+    /// The query's reply, and its finish.
+    fn replied(self) -> Self {
+        self.call(client::PIECE, REPLY, complete(), |c| (c.under, c.last) = (COMPLETE, b"010C"))
+            .call(client::FINISH, &[], values(1, VALUE), |c| (c.under, c.count) = (NOTHING, 2))
+    }
+
+    /// Any end of the wait for the ATZ answer: ATE0 goes out, a raw command.
+    fn reset(self, kind: u8, piece: &[u8]) -> Self {
+        self.call(kind, piece, next(b"ATE0\r"), |c| (c.under, c.last) = (SETUP, b""))
+    }
+
+    /// A later command of the initialisation is answered, and the next one goes out.
+    fn setup(self, text: &[u8]) -> Self {
+        self.call(client::PIECE, b"OK\r\r>", next(text), |_| {})
+    }
+
+    fn piece(self, bytes: &[u8]) -> Self {
+        self.call(client::PIECE, bytes, awaited(), |_| {})
+    }
+
+    /// So many bytes of a reply, in pieces of at most 128.
+    fn pieces(mut self, size: usize) -> Self {
+        for piece in vec![b'\r'; size].chunks(128) {
+            self = self.piece(piece);
+        }
+        self
+    }
+
+    /// The reply so far is shown.
+    fn so_far(mut self, reply: &[u8]) -> Self {
+        self.script.look(client::REPLY, &[]);
+        put_text(&mut self.log, reply);
+        self
+    }
+
+    /// A number of the far side: the query or command is over, and the last query forgotten.
+    fn failed(self, kind: u8, piece: &[u8], n: u8) -> Self {
+        self.call(kind, piece, number(n), |c| (c.under, c.last) = (NOTHING, b""))
+    }
+
+    /// The same in a query of `query_pids`, before multi-PID support is known.
+    fn failed_untested(self, kind: u8, piece: &[u8], n: u8) -> Self {
+        self.call(kind, piece, number(n), |c| (c.under, c.multi, c.last) = (NOTHING, NO, b""))
+    }
+
+    /// Something is under way.
+    fn no_start(self) -> Self {
+        self.refused(client::INIT, &[], 1)
+            .refused(client::COMMAND, b"ATI", 1)
+            .refused(client::QUERY_PID, &[0x0C], 1)
+            .refused(client::QUERY_PIDS, &[0x0C, 0x0D], 1)
+    }
+
+    /// No query's reply is complete.
+    fn no_finish(self) -> Self {
+        self.refused(client::FINISH, &[], 1)
+    }
+
+    /// No reply is awaited.
+    fn no_piece(self) -> Self {
+        self.refused(client::PIECE, b">", 1).refused(client::FAILED_READ, &[], 1).refused(client::FAILED_WRITE, &[], 1)
+    }
+}
+
+/// A line list of one line, of an unknown ECU, and its reply under fresh settings.
+const LINES: &[u8] = &[0x00, 0x03, 0x41, 0x0D, 0x20];
+const LINES_SENT: &[u8] = b"41 0D 20\r\n\r\n>";
+
+/// A fresh server session.
+fn reading() -> Session<Server> {
+    Session::new(SERVER, Server { echo: true, linefeeds: true, headers: false, phase: READING, last: Vec::new(), line: Vec::new() })
+}
+
+/// A text, two line endings with linefeeds, and the prompt.
+fn chip(text: &[u8]) -> Vec<u8> {
+    [text, b"\r\n\r\n>"].concat()
+}
+
+impl Session<Server> {
+    /// A command and its CR, with echo.
+    fn line(self, command: &[u8], phase: u8) -> Self {
+        let line = [command, b"\r"].concat();
+        let said = (64 + phase, line.len(), line.clone());
+        self.call(server::BYTES, &line, said, |s| (s.phase, s.line) = (phase, command.to_vec()))
+    }
+
+    fn at(self, command: &[u8]) -> Self {
+        self.line(command, AT)
+    }
+
+    fn obd(self, command: &[u8]) -> Self {
+        self.line(command, OBD)
+    }
+
+    /// So many bytes of a line, each taken and sent back.
+    fn filled(self, byte: u8, size: usize) -> Self {
+        let bytes = vec![byte; size];
+        self.call(server::BYTES, &bytes, (64, size, bytes.clone()), |s| s.line.extend(&bytes))
+    }
+
+    /// A byte that is stored, and sent back.
+    fn byte(self, byte: u8) -> Self {
+        self.call(server::BYTE, &[byte], taken(&[byte]), |s| s.line.push(byte))
+    }
+
+    /// The line ends, and its command, which is the line, is handed out.
+    fn ended(self) -> Self {
+        self.call(server::BYTE, b"\r", handed(b"\r"), |s| s.phase = OBD)
+    }
+
+    /// An answer is sent, and the session reads on.
+    fn answer(self, kind: u8, argument: &[u8], text: &[u8], change: impl Fn(&mut Server)) -> Self {
+        self.call(kind, argument, sent(text), |s| {
+            (s.phase, s.line) = (READING, Vec::new());
+            change(s);
+        })
+    }
+
+    /// A reply makes its command the last one.
+    fn reply(self, list: &[u8], text: &[u8]) -> Self {
+        self.call(server::REPLY, list, sent(text), |s| (s.phase, s.last) = (READING, std::mem::take(&mut s.line)))
+    }
+
+    fn malformed(self, list: &[u8]) -> Self {
+        self.refused(server::REPLY, list, 5)
+    }
+
+    /// Both identity strings, one after the other, get a number.
+    fn no_identity(self, text: &[u8], n: u8) -> Self {
+        self.refused(server::ANSWER_ATI, text, n).refused(server::ANSWER_DEVICE, text, n)
+    }
+
+    fn no_at_answer(self) -> Self {
+        self.no_identity(b"ELM327", 1)
+    }
+
+    fn no_obd_answer(self) -> Self {
+        self.refused(server::REPLY, LINES, 1).refused(server::REPLY, &[], 1).refused(server::REJECT, b"?", 1)
+    }
+
+    fn no_byte(self) -> Self {
+        self.refused(server::BYTE, b"0", 1).refused(server::BYTE, b"\r", 1).refused(server::BYTE, b"\n", 1).refused(server::BYTES, b"01", 1)
+    }
+}
+
+/// "Six PIDs pass, seven get 2; byte 128 of a line is stored, the next gets 10."
+fn card_13() -> Vec<Written> {
+    let seven = [0x0C, 0x0D, 0x05, 0x0F, 0x10, 0x11, 0x2F];
+    let pids = fresh(false, true)
+        .refused(client::QUERY_PIDS, &seven, 2)
+        .refused(client::QUERY_PIDS_COUNT, &[&[1], &seven[..]].concat(), 2)
+        .start(client::QUERY_PIDS, &seven[..6], b"010C0D050F1011\r", QUERY);
+    let line = reading()
+        .filled(b'1', 127)
+        .byte(b'2')
+        .refused(server::BYTE, b"3", 10)
+        .call(server::BYTE, b"\n", taken(b"\n"), |_| {})
+        .refused(server::BYTE, b"4", 10)
+        .ended();
+    vec![pids.case("seven PIDs"), line.case("byte 129")]
+}
+
+fn out_of_turn() -> Vec<Written> {
+    let query = fresh(false, true).query().no_start().no_finish().piece(b"41 0C").no_start().no_finish();
+    let complete = fresh(false, true)
+        .query()
+        .call(client::PIECE, REPLY, complete(), |c| (c.under, c.last) = (COMPLETE, b"010C"))
+        .no_start()
+        .no_piece()
+        .call(client::FINISH, &[], values(1, VALUE), |c| (c.under, c.count) = (NOTHING, 2))
+        .no_finish()
+        .no_piece();
+    let repeat = fresh(false, true)
+        .query()
+        .replied()
+        .repeat()
+        .no_start()
+        .no_finish()
+        .call(client::PIECE, b"?\r\r>", next(b"010C\r"), |c| (c.under, c.repeat) = (QUERY, NO))
+        .no_start()
+        .no_finish();
+    let raw = fresh(false, true)
+        .raw(b"ATH1")
+        .no_start()
+        .no_finish()
+        .call(client::PIECE, b"OK\r\r>", over(), |c| (c.under, c.framing) = (NOTHING, true))
+        .no_finish()
+        .no_piece();
+    let init = fresh(true, true).init().no_start().no_finish().reset(client::PIECE, b"ELM327 v1.5\r\r>").no_start().no_finish();
+    let init = [b"ATL0\r" as &[u8], b"ATS0\r", b"ATSP0\r", b"ATH1\r"].into_iter().fold(init, |init, text| init.setup(text).no_start().no_finish());
+    let init = init.call(client::PIECE, b"OK\r\r>", over(), |c| (c.under, c.framing) = (NOTHING, true)).no_finish().no_piece();
+    let nothing = reading().no_at_answer().no_obd_answer().filled(b'1', 2).no_at_answer().no_obd_answer();
+    let handed = reading()
+        .at(b"ATL0")
+        .no_byte()
+        .no_obd_answer()
+        .answer(server::ANSWER_ATI, b"ELM327", b"OK\r\r>", |s| s.linefeeds = false)
+        .no_at_answer()
+        .obd(b"010D")
+        .no_byte()
+        .no_at_answer()
+        .reply(LINES, b"41 0D 20\r\r>")
+        .no_obd_answer();
+    vec![
+        fresh(false, true).no_piece().no_finish().case("client, nothing under way"),
+        query.case("a query"),
+        complete.case("a complete query reply"),
+        repeat.case("a repeat"),
+        raw.case("a raw command"),
+        init.case("the initialisation"),
+        nothing.case("server, nothing handed out"),
+        handed.case("commands handed out"),
+    ]
+}
+
+fn no_pid() -> Vec<Written> {
+    // The last query is still there: the same text is repeated.
+    let none = fresh(false, true).query().replied().refused(client::QUERY_PIDS, &[], 2).start(client::QUERY_PIDS, &[0x0C], b"\r", REPEAT);
+    let count = fresh(false, true).refused(client::QUERY_PIDS_COUNT, &[1], 2).start(client::QUERY_PIDS_COUNT, &[1, 0x0C], b"010C 1\r", QUERY);
+    vec![none.case("no PID"), count.case("no PID, with a count")]
+}
+
+fn too_long() -> Vec<Written> {
+    let raw = fresh(false, true)
+        .query()
+        .replied()
+        .refused(client::COMMAND, &[b'A'; 65], 3)
+        .refused(client::COMMAND, &[&[b'A'; 64], &b"\r"[..]].concat(), 3)
+        .raw(&[b'A'; 64])
+        .refused(client::PIECE, &[b'>'; 129], 3)
+        .call(client::PIECE, &[b'>'; 128], over(), |c| c.under = NOTHING);
+    let query = fresh(false, true)
+        .query()
+        .piece(b"41")
+        .refused(client::PIECE, &[b'>'; 129], 3)
+        .so_far(b"41")
+        .piece(&[b' '; 128])
+        .so_far(&[b"41", &[b' '; 128][..]].concat());
+    let init = fresh(true, false)
+        .init()
+        .refused(client::PIECE, &[b'>'; 257], 3)
+        .reset(client::PIECE, &[b'>'; 256])
+        .refused(client::PIECE, &[b'>'; 129], 3)
+        .call(client::PIECE, &[b'>'; 128], next(b"ATL0\r"), |_| {});
+    let reject = reading().obd(b"010D").refused(server::REJECT, &[b'x'; 65], 3).answer(server::REJECT, &[b'x'; 64], &chip(&[b'x'; 64]), |_| {});
+    let longer = &[b'i'; 33];
+    let longest = &longer[..32];
+    let identity = reading()
+        .at(b"ATI")
+        .no_identity(longer, 3)
+        .answer(server::ANSWER_ATI, longest, &chip(longest), |_| {})
+        .at(b"AT@1")
+        .no_identity(longer, 3)
+        .answer(server::ANSWER_DEVICE, longest, &chip(longest), |_| {})
+        .at(b"ATH1")
+        .no_identity(longer, 3)
+        .answer(server::ANSWER_DEVICE, longest, &chip(b"OK"), |s| s.headers = true);
+    vec![raw.case("a raw command"), query.case("a piece"), init.case("the ATZ answer"), reject.case("a rejection"), identity.case("identity strings")]
+}
+
+fn not_ascii() -> Vec<Written> {
+    let raw = fresh(false, true).query().replied().refused(client::COMMAND, b"AT\x80", 4).refused(client::COMMAND, b"\xFFATI", 4).raw(b"AT\x7F");
+    let reject = reading()
+        .obd(b"010D")
+        .refused(server::REJECT, b"NO\x80", 4)
+        .refused(server::REJECT, b"\xFFNO", 4)
+        .answer(server::REJECT, b"NO\x7F", &chip(b"NO\x7F"), |_| {});
+    let identity = reading()
+        .at(b"ATI")
+        .no_identity(b"i\x80", 4)
+        .answer(server::ANSWER_ATI, b"i\x7F", &chip(b"i\x7F"), |_| {})
+        .at(b"AT@1")
+        .no_identity(b"\xFFi", 4)
+        .answer(server::ANSWER_DEVICE, b"i\x7F", &chip(b"i\x7F"), |_| {})
+        .at(b"ATE0")
+        .no_identity(b"\x80", 4)
+        .answer(server::ANSWER_ATI, b"", &chip(b"OK"), |s| s.echo = false);
+    vec![raw.case("a raw command"), reject.case("a rejection"), identity.case("identity strings")]
+}
+
+fn malformed() -> Vec<Written> {
+    let ends = reading()
+        .obd(b"010D")
+        .reply(LINES, LINES_SENT)
+        .obd(b"010C")
+        .malformed(&[0x80])
+        .malformed(&[0x00])
+        .malformed(&[0x00, 0x80])
+        .malformed(&[0x00, 0x04, 0x41, 0x0D, 0x20])
+        .malformed(&[0x00, 0x03, 0x41, 0x0D, 0x20, 0x00])
+        .reply(LINES, LINES_SENT);
+    // ECU+1 of 4,097 and of 4,096: the id FFF.
+    let ids = reading()
+        .at(b"ATH1")
+        .answer(server::ANSWER_ATI, b"", &chip(b"OK"), |s| s.headers = true)
+        .obd(b"010D")
+        .malformed(&[0x81, 0x20, 0x00])
+        .reply(&[0x80, 0x20, 0x00], b"FFF 00 \r\n\r\n>");
+    let lengths = reading()
+        .obd(b"010D")
+        .malformed(&[&[0x00, 0x80, 0x02], &[0; 256][..]].concat())
+        .reply(&[&[0x00, 0xFF, 0x01], &[0; 255][..]].concat(), &[&b"00 ".repeat(254), &b"00\r\n\r\n>"[..]].concat());
+    // 0, 3 and 7E8+1 in a byte more than they need, and 2 to the 64, which is not 0.
+    let forms = reading()
+        .obd(b"010D")
+        .malformed(&[0x80, 0x00, 0x03, 0x41, 0x0D, 0x20])
+        .malformed(&[0x00, 0x83, 0x00, 0x41, 0x0D, 0x20])
+        .malformed(&[0xE9, 0x8F, 0x00, 0x03, 0x41, 0x0D, 0x20])
+        .malformed(&[&[0x80; 9], &[0x02, 0x03, 0x41, 0x0D, 0x20][..]].concat())
+        .reply(&[0xE9, 0x0F, 0x03, 0x41, 0x0D, 0x20], LINES_SENT);
+    let lines = reading().obd(b"010D").malformed(&[0; 130]).reply(&[0; 128], &[&b"\r\n".repeat(64), &b"\r\n>"[..]].concat());
+    vec![ends.case("lists that end too soon"), ids.case("ids"), lengths.case("lengths"), forms.case("longer forms"), lines.case("65 lines")]
+}
+
+/// Only the record buffer of a bench run can be made small: the worked example twice, in as many bytes as its parts take, and in one less.
+fn small_buffer() -> Vec<Written> {
+    let part = [0x01, 0x0C, 0xE9, 0x0F, 0x04, 0x41, 0x0C, 0x1A, 0xF8];
+    let run = |name, room, code, parts| {
+        let mut log = Vec::new();
+        put_call(&mut log, code, 0, &part.repeat(parts));
+        Written { name, kind: RUN + 1, room, script: Script { bytes: WORKED.repeat(2), calls: 0 }, log }
+    };
+    vec![run("both parts", 18, 64, 2), run("the first part", 17, 6, 1), run("no part", 8, 6, 0)]
+}
+
+fn failures() -> Vec<Written> {
+    let mut cases = Vec::new();
+    let mut query = fresh(false, true);
+    for kind in FAILURES {
+        query = query.query().replied().repeat().failed(kind, &[], 7).query().piece(b"41").failed(kind, &[], 7).no_piece();
+        let pids = fresh(false, true).start(client::QUERY_PIDS, &[0x0C, 0x0D], b"010C0D\r", QUERY).failed_untested(kind, &[], 7);
+        cases.push(pids.case("query_pids, support untested"));
+    }
+    // A PID that is queried twice counts twice.
+    let twice = |found: Session<Client>| found.start(client::QUERY_PIDS, &[0x0C, 0x0C], b"010C0C\r", QUERY);
+    let mut found = twice(fresh(false, false))
+        .call(client::PIECE, REPLY, complete(), |c| (c.under, c.last) = (COMPLETE, b"010C0C"))
+        .call(client::FINISH, &[], values(1, VALUE), |c| (c.under, c.multi, c.count) = (NOTHING, YES, 2));
+    let mut raw = fresh(false, true);
+    let mut setup = fresh(false, true).raw(b"ATH1").call(client::PIECE, b">", over(), |c| (c.under, c.framing) = (NOTHING, true));
+    for kind in FAILURES {
+        found = twice(found).failed(kind, &[], 7);
+        raw = raw.raw(b"ATH1").piece(b"OK").failed(kind, &[], 7);
+        setup = setup.init().reset(client::PIECE, b"ELM327").failed(kind, &[], 7);
+    }
+    let last = setup.init().reset(client::PIECE, b"ELM327").setup(b"ATL0\r").setup(b"ATS0\r").setup(b"ATSP0\r").setup(b"ATH0\r");
+    // A failed write changes nothing but that the initialisation is over: the query is still repeated.
+    let reset = fresh(false, true)
+        .query()
+        .replied()
+        .init()
+        .call(client::FAILED_WRITE, &[], number(7), |c| c.under = NOTHING)
+        .repeat()
+        .call(client::PIECE, REPLY, complete(), |c| (c.under, c.repeat) = (COMPLETE, YES))
+        .call(client::FINISH, &[], values(1, VALUE), |c| c.under = NOTHING)
+        .init()
+        .reset(client::FAILED_READ, &[])
+        .failed(client::FAILED_WRITE, &[], 7)
+        .init()
+        .reset(client::PIECE, &[]);
+    cases.extend([
+        query.case("a query"),
+        found.case("query_pids, support found"),
+        raw.case("a raw command"),
+        last.failed(client::FAILED_READ, &[], 7).case("the initialisation after ATZ"),
+        reset.case("the ATZ answer"),
+    ]);
+    cases
+}
+
+fn too_much() -> Vec<Written> {
+    let whole = fresh(false, true)
+        .query()
+        .pieces(4095)
+        .call(client::PIECE, b">", complete(), |c| (c.under, c.last) = (COMPLETE, b"010C"))
+        .call(client::FINISH, &[], values(0, b""), |c| c.under = NOTHING);
+    let pids = fresh(false, true)
+        .start(client::QUERY_PIDS, &[0x0C, 0x0D], b"010C0D\r", QUERY)
+        .pieces(4096)
+        .refused(client::PIECE, &[b'>'; 129], 3)
+        .failed_untested(client::PIECE, b">", 8);
+    let raw = fresh(false, true).raw(b"ATH1").pieces(4095).failed(client::PIECE, b">\x80", 8);
+    vec![whole.case("4,096 bytes"), pids.case("byte 4,097, after 3 for a piece"), raw.case("8 before 9")]
+}
+
+fn high_reply() -> Vec<Written> {
+    let query = fresh(false, true).query().replied().start(client::QUERY_PID, &[0x0D], b"010D\r", QUERY).piece(b"41\x7F").failed(client::PIECE, b"0D\x80", 9);
+    let pids = fresh(false, true).start(client::QUERY_PIDS, &[0x0C, 0x0D], b"010C0D\r", QUERY).failed_untested(client::PIECE, b"\xFF", 9);
+    // Bytes after the prompt belong to the reply. The ATZ answer may hold any.
+    let raw = fresh(true, true)
+        .raw(b"ATH1")
+        .failed(client::PIECE, b"OK\r\r>\x80", 9)
+        .init()
+        .reset(client::PIECE, b"\x80\xFF>")
+        .failed(client::PIECE, b"OK\xFF\r\r>", 9);
+    vec![query.case("a query"), pids.case("query_pids, support untested"), raw.case("a raw command and the initialisation")]
+}
+
+fn line_full() -> Vec<Written> {
+    let spaces = reading()
+        .filled(b' ', 128)
+        .refused(server::BYTE, b" ", 10)
+        .call(server::BYTE, b"\r", taken(b"\r?\r\n\r\n>"), |s| s.line.clear());
+    // Without echo, and of a run of bytes 128 are taken.
+    let run = reading()
+        .at(b"ATE0")
+        .answer(server::ANSWER_ATI, b"", &chip(b"OK"), |s| s.echo = false)
+        .call(server::BYTES, &[b'1'; 130], (10, 128, Vec::new()), |s| s.line = vec![b'1'; 128])
+        .refused(server::BYTES, b"2\r", 10)
+        .call(server::BYTES, b"\n\r", (66, 2, Vec::new()), |s| s.phase = OBD);
+    vec![spaces.case("128 spaces"), run.case("a run of bytes")]
+}
+
+fn high_byte() -> Vec<Written> {
+    let bytes = reading().filled(b'0', 2).refused(server::BYTE, b"\x80", 11).refused(server::BYTE, b"\xFF", 11).byte(0x7F).ended();
+    let run = reading()
+        .call(server::BYTES, b"01\x8D\r", (11, 2, b"01".to_vec()), |s| s.line = b"01".to_vec())
+        .refused(server::BYTES, b"\x80\r", 11)
+        .call(server::BYTES, b"\x7F\r", (66, 2, b"\x7F\r".to_vec()), |s| (s.phase, s.line) = (OBD, b"01\x7F".to_vec()));
+    vec![bytes.case("a reader's bytes"), run.case("a run of bytes")]
+}
+
+/// "The first that applies: 1, 2, 3, 4, 5, 6, 7, 8, 9, 11, 10."
+fn order() -> Vec<Written> {
+    let client = fresh(false, true)
+        .refused(client::PIECE, &[b'>'; 129], 1)
+        .refused(client::PIECE, &[], 1)
+        .refused(client::PIECE, b"\x80", 1)
+        .refused(client::COMMAND, &[0x80; 65], 3)
+        .query()
+        .refused(client::QUERY_PIDS, &[], 1)
+        .refused(client::QUERY_PIDS, &[0x0C; 7], 1)
+        .refused(client::COMMAND, &[b'A'; 65], 1)
+        .refused(client::COMMAND, b"\x80", 1)
+        .refused(client::PIECE, &[0x80; 129], 3);
+    let nothing = reading()
+        .no_identity(&[b'i'; 33], 1)
+        .no_identity(b"\x80", 1)
+        .refused(server::REJECT, &[b'x'; 65], 1)
+        .refused(server::REJECT, b"\x80", 1)
+        .refused(server::REPLY, &[0x80], 1);
+    let handed = reading()
+        .at(b"ATI")
+        .refused(server::BYTE, b"\x80", 1)
+        .no_identity(&[0x80; 33], 3)
+        .answer(server::ANSWER_ATI, b"", &chip(b""), |_| {})
+        .obd(&[b'1'; 128])
+        .refused(server::BYTE, b"\x80", 1)
+        .refused(server::BYTE, b"1", 1)
+        .refused(server::REJECT, &[0x80; 65], 3);
+    let full = reading().filled(b'1', 128).refused(server::BYTE, b"\x80", 11).refused(server::BYTE, b"\x7F", 10).ended();
+    vec![client.case("client"), nothing.case("server, nothing handed out"), handed.case("commands handed out"), full.case("11 before 10")]
+}
+
+/// The cases, under their headings.
+pub fn by_hand() -> Vec<(&'static str, Vec<Written>)> {
+    vec![
+        ("by hand, card 13", card_13()),
+        ("by hand, out of turn (1)", out_of_turn()),
+        ("by hand, no PID (2)", no_pid()),
+        ("by hand, too long (3)", too_long()),
+        ("by hand, a text's byte of 80 or more (4)", not_ascii()),
+        ("by hand, malformed lines (5)", malformed()),
+        ("by hand, a small record buffer (6)", small_buffer()),
+        ("by hand, failures and closed connections (7)", failures()),
+        ("by hand, a reply over 4,096 bytes (8)", too_much()),
+        ("by hand, a reply's byte of 80 or more (9)", high_reply()),
+        ("by hand, a full line (10)", line_full()),
+        ("by hand, a reader's byte of 80 or more (11)", high_byte()),
+        ("by hand, the first that applies", order()),
+    ]
+}
