@@ -14,7 +14,7 @@ use Rattle.line_list.specs.Lines.{line}
 use Rattle.value.specs.Values.{value}
 use Rattle.reply_values.specs.Learn.{learnLength, ecusGiving}
 use Rattle.reply_values.specs.declared.ReadAnswer.the-variants as read
-use Rattle.reply_values.specs.Read.{Read, replyRead, asked, readReply}
+use Rattle.reply_values.specs.Read.{ReadServed, replyRead, asked, readReply}
 use Rattle.server_state.specs.declared.FeatureSupport.the-variants as support
 use Rattle.server_state.specs.State.{countIn}
 use Rattle.client_session.specs.declared.Under.the-variants as under
@@ -48,7 +48,7 @@ abbrev bothEcus : Said Client ℕ
 bothEcus = answering (queryPidSays 80 framed 0xE0 0) alike
 
 -- a reply read for `query_pid` of E0, framed, with so much room
-abbrev readUnlike : ℕ → Read
+abbrev readUnlike : ℕ → ReadServed
 readUnlike room = readReply (asked true false (0xE0 ∷ []) mode01Lengths (replicate 256 0)) (ascii unlike) (replicate room 9)
 
 -- the count of a PID, as a query has it, after a query of it

@@ -12,17 +12,14 @@ use borrow.Author.Tests.{lt-ltb, le-ltb}
 use Rattle.wire.specs.Text.{high}
 use Rattle.wire.proofs.Cases.{by-test, from-no}
 use Rattle.wire.proofs.ListLaws.{take-min}
-use Rattle.value.specs.Values.{Value, valuesBytes}
-use Rattle.reply_lines.specs.Decode.{replyLines}
-use Rattle.reply_values.specs.Values.{valuesOf, answerOrder}
-use Rattle.reply_values.specs.Learn.{lengthsAfter, learnCounts, givenPids}
-use Rattle.reply_values.specs.Read.{Read, replyRead, readValues, readReply}
+use Rattle.value.specs.Values.{valuesBytes}
+use Rattle.reply_values.specs.Read.{Reading, reading, ReadServed, fitted, replyRead, readReply}
 use Rattle.reply_values.specs.declared.ReadAnswer.the-variants as read
 use Rattle.reply_values.specs.declared.ReplyRead.{ReplyRead}
 use Rattle.client_session.specs.Session.{Client}
 use Rattle.client_session.specs.Piece.{failing, replyIn}
-use Rattle.client_session.specs.Finish.{isComplete, taught, finishReply, finishSays}
-use Rattle.client_session.specs.Steps.{question, finishStored}
+use Rattle.client_session.specs.Finish.{question, isComplete, taught, finishReply, finishSays}
+use Rattle.client_session.specs.Steps.{finishStored}
 
 -- the reply that the store holds
 pub reply-in : (c : Client) (store : List ℕ) (n : ℕ) → n ≡ min (c .got) 4096 → replyIn c store ≡ take n store
@@ -57,51 +54,47 @@ module _ (room : ℕ) (c : Client) (reply : List ℕ) where
 
 -- a reply read for the query of a session
 module _ (c : Client) (reply out : List ℕ) (short : length reply ≤ 4096) where
-  abbrev lengths : List ℕ
-  lengths = lengthsAfter (c .query .several) (c .query .pids) (c .known .lengths) (replyLines (c .known .framing) reply)
-
-  abbrev values : List Value
-  values = valuesOf lengths (replyLines (c .known .framing) reply)
+  abbrev gives : Reading
+  gives = reading (question c) reply
 
   abbrev text : List ℕ
-  text = valuesBytes (answerOrder values)
+  text = valuesBytes (gives .values)
 
-  whole : readReply (question c) reply out ≡ readValues (question c) lengths values out
+  whole : readReply (question c) reply out ≡ fitted (question c) gives out
   unfolding readReply
   whole = rw (take-all 4096 reply short)
 
   module _ (r : ReplyRead) (left : List ℕ) (q : replyRead r left ≡ readReply (question c) reply out) where
-    of-full : r .answer ≡ read.SmallBuffer → (left ≡ out) × (finishReply (length out) c reply ≡ refusing 6 c)
-    of-full e =
-        by-test (ltb (length out) (length text))
-        (λ t.
-        let p : replyRead r left ≡ record { answer = refused 6; lengths = c .known .lengths; counts = c .known .counts; out = out } = q ∙ whole ∙ rw t in
-        (ap (λ (x : Read). x .out) p, rw t))
-        (λ t.
-        let p : replyRead r left ≡ record { answer = result (length values ∷ length text ∷ givenPids (c .query .pids) values ∷ []); lengths = lengths; counts = learnCounts (c .known .framing) 0 (c .known .counts) values; out = sets out 0 text } = q ∙ whole ∙ rw t in
-        from-no (cc (ap (λ (x : Read). x .answer) p)))
+    -- the values are longer than the buffer, and they fit
+    full : ltb (length out) (length text) ≡ true → replyRead r left ≡ record { answer = refused 6; lengths = c .known .lengths; counts = c .known .counts; out = out }
+    full t = q ∙ whole ∙ rw t
 
-    -- the values were longer than the buffer
+    all : ltb (length out) (length text) ≡ false →
+        replyRead r left ≡
+        record { answer = result (length (gives .values) ∷ length text ∷ gives .given ∷ []); lengths = gives .lengths; counts = gives .counts; out = sets out 0 text }
+    all t = q ∙ whole ∙ rw t
+
+    -- the answer says which
     pub read-small : r .answer ≡ read.SmallBuffer →
         _≡_ {A = Served Client ℕ} (record { answer = refused 6; written = 0; next = c; out = left }) (lent (finishReply (length out) c reply) out)
-    read-small e = let (same, says) = of-full e in rw (same, says)
+    read-small e =
+        by-test (ltb (length out) (length text))
+        (λ t. let same : left ≡ out = ap (λ (x : ReadServed). x .out) (full t) in rw (same, t))
+        (λ t. from-no (cc (ap (λ (x : ReadServed). x .answer) (all t))))
 
-    -- the values were written
     pub read-values : {count written given : ℕ} → r .answer ≡ read.Values count written given →
         _≡_ {A = Served Client ℕ} (record { answer = result count; written = written; next = taught c (r .lengths) (r .counts) given; out = left })
         (lent (finishReply (length out) c reply) out)
     read-values {count} {written} {given} e =
         by-test (ltb (length out) (length text))
+        (λ t. from-no (cc (ap (λ (x : ReadServed). x .answer) (full t))))
         (λ t.
-        let p : replyRead r left ≡ record { answer = refused 6; lengths = c .known .lengths; counts = c .known .counts; out = out } = q ∙ whole ∙ rw t in
-        from-no (cc (ap (λ (x : Read). x .answer) p)))
-        (λ t.
-        let p : replyRead r left ≡ record { answer = result (length values ∷ length text ∷ givenPids (c .query .pids) values ∷ []); lengths = lengths; counts = learnCounts (c .known .framing) 0 (c .known .counts) values; out = sets out 0 text } = q ∙ whole ∙ rw t in
-        let a = ap (λ (x : Read). x .answer) p in
-        let k : count ≡ length values = cc in
+        let p = all t in
+        let a = ap (λ (x : ReadServed). x .answer) p in
+        let k : count ≡ length (gives .values) = cc in
         let w : written ≡ length text = cc in
-        let g : given ≡ givenPids (c .query .pids) values = cc in
-        let l : r .lengths ≡ lengths = ap (λ (x : Read). x .lengths) p in
-        let n : r .counts ≡ learnCounts (c .known .framing) 0 (c .known .counts) values = ap (λ (x : Read). x .counts) p in
-        let o : left ≡ sets out 0 text = ap (λ (x : Read). x .out) p in
+        let g : given ≡ gives .given = cc in
+        let l : r .lengths ≡ gives .lengths = ap (λ (x : ReadServed). x .lengths) p in
+        let n : r .counts ≡ gives .counts = ap (λ (x : ReadServed). x .counts) p in
+        let o : left ≡ sets out 0 text = ap (λ (x : ReadServed). x .out) p in
         rw t (λ i. record { answer = result (k i); written = w i; next = taught c (l i) (n i) (g i); out = o i }))

@@ -8,11 +8,8 @@ use lib.ListN.{length}
 use Rattle.wire.specs.Answer.{Answer, result, refused}
 use Rattle.wire.specs.Call.{Said, saying, refusing, Served}
 use Rattle.wire.specs.Text.{high}
-use Rattle.line_list.specs.Lines.{Line}
-use Rattle.value.specs.Values.{Value, valuesBytes}
-use Rattle.reply_lines.specs.Decode.{replyLines}
-use Rattle.reply_values.specs.Values.{valuesOf, answerOrder}
-use Rattle.reply_values.specs.Learn.{lengthsAfter, learnCounts, givenPids}
+use Rattle.value.specs.Values.{valuesBytes}
+use Rattle.reply_values.specs.Read.{Asked, asked, Reading, reading}
 use Rattle.server_state.specs.declared.FeatureSupport.{FeatureSupport}
 use Rattle.server_state.specs.declared.FeatureSupport.the-variants as support
 use Rattle.server_state.specs.State.{decided}
@@ -23,6 +20,10 @@ use Rattle.client_session.specs.declared.FinishAnswer.the-variants as an
 use Rattle.client_session.specs.declared.FinishStep.{FinishStep}
 use Rattle.client_session.specs.Session.{Client, client}
 use Rattle.client_session.specs.Piece.{failing, replyIn}
+
+-- what a finish asks of the reply
+abbrev pub question : Client → Asked
+question c = asked (c .known .framing) (c .query .several) (c .query .pids) (c .known .lengths) (c .known .counts)
 
 -- multi-PID support after a reply that gave so many of the queried PIDs: with two it is confirmed, else refused
 abbrev pub multiAfter : Bool → FeatureSupport → ℕ → FeatureSupport
@@ -47,20 +48,15 @@ taught c lengths counts given = record {
 }
 
 -- the query is over; the result is the number of values
-abbrev pub finished : Client → List ℕ → List Value → Said Client ℕ
-finished c lengths vs =
-    saying (length vs) (taught c lengths (learnCounts (c .known .framing) 0 (c .known .counts) vs) (givenPids (c .query .pids) vs))
-    (valuesBytes (answerOrder vs))
+abbrev pub finished : Client → Reading → Said Client ℕ
+finished c r = saying (length (r .values)) (taught c (r .lengths) (r .counts) (r .given)) (valuesBytes (r .values))
 
 -- unless its values are longer than the room for them
 abbrev pub roomFor : ℕ → Client → Said Client ℕ → Said Client ℕ
 roomFor room c d = cond (ltb room (length (d .text))) (refusing 6 c) d
 
 abbrev pub finishReply : ℕ → Client → List ℕ → Said Client ℕ
-finishReply room c reply =
-    let ls = replyLines (c .known .framing) reply in
-    let lengths = lengthsAfter (c .query .several) (c .query .pids) (c .known .lengths) ls in
-    roomFor room c (finished c lengths (valuesOf lengths ls))
+finishReply room c reply = roomFor room c (finished c (reading (question c) reply))
 
 -- what 1 asks of "a finish": "a complete query reply"
 abbrev pub isComplete : Under → Bool

@@ -9,7 +9,6 @@ use Rattle.wire.specs.Answer.{Answer, result, refused}
 use Rattle.wire.specs.Call.{Said, Served}
 use Rattle.wire.specs.Put.{Put}
 use Rattle.wire.specs.Text.{high}
-use Rattle.reply_values.specs.Read.{Asked, asked}
 use Rattle.client_session.specs.declared.Under.{Under}
 use Rattle.client_session.specs.declared.Under.the-variants as under
 use Rattle.client_session.specs.declared.ClientSession.{ClientSession}
@@ -76,10 +75,6 @@ turnNumber u n = cond (isAwaited u) n 1
 abbrev pub replyNumber : ℕ → List ℕ → List ℕ → ℕ
 replyNumber got piece store =
     cond (eqb (length piece) 0) 7 (cond (ltb 4096 (got + length piece)) 8 (cond (high (take got (take 4096 store) ++ piece)) 9 0))
-
--- what a finish asks of the reply
-abbrev pub question : Client → Asked
-question c = asked (c .known .framing) (c .query .several) (c .query .pids) (c .known .lengths) (c .known .counts)
 
 -- a finish of the reply that the store holds
 abbrev pub finishStored : ℕ → Client → List ℕ → Said Client ℕ
