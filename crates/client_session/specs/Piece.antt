@@ -2,9 +2,9 @@
 -- the next into its out buffer." "a `?` in its reply turns repeat to No and the full query follows, written by the call whose piece completed that reply; any
 -- other reply turns Unknown to Yes." "While the ATZ answer is awaited, 7 to 9 are not given for reads: any piece, an empty one or a failed read is dropped, as in
 -- Rust; a failed write there ends the initialisation with 7 and changes nothing else."
-use mathlib.Core.Bool.{Bool, true, false, cond}
+use mathlib.Core.Bool.{Bool, true, false, cond, _||_}
 use mathlib.Core.List.{List, [], _∷_, _++_}
-use Prim.Native.Nat.{ℕ, zero, suc, _+_}
+use Prim.Native.Nat.{ℕ, _+_}
 use lib.Dec.{eqb, ltb}
 use lib.ListN.{length, take}
 use lib.Seq.{sets}
@@ -36,9 +36,29 @@ pub data Progress : Type 0 where
   -- a query's reply is complete
   complete : Progress
 
--- the first number of an awaited piece before its bytes are looked at: 3 over the limit, 6 for room under 80 or a store under 4,096
-abbrev pub pieceNumber : ℕ → List ℕ → ℕ → ℕ → ℕ
-pieceNumber limit piece room store = cond (ltb limit (length piece)) 3 (cond (ltb room 80) 6 (cond (ltb store 4096) 6 0))
+-- what 1 asks of "a piece or failure": "an awaited reply"
+abbrev pub isAwaited : Under → Bool
+isAwaited under.Nothing = false
+isAwaited under.Reset = true
+isAwaited (under.Setup k) = true
+isAwaited (under.Raw e) = true
+isAwaited under.Query = true
+isAwaited under.Repeat = true
+isAwaited under.Complete = false
+
+-- "while the ATZ answer is awaited"
+abbrev pub isReset : Under → Bool
+isReset under.Nothing = false
+isReset under.Reset = true
+isReset (under.Setup k) = false
+isReset (under.Raw e) = false
+isReset under.Query = false
+isReset under.Repeat = false
+isReset under.Complete = false
+
+-- 3: "received piece over 128 (256 while the ATZ answer is awaited)"
+abbrev pub pieceLimit : Under → ℕ
+pieceLimit u = cond (isReset u) 256 128
 
 -- a query of `query_pids` is under way, where several says that the query is such a one
 abbrev pub isSeveral : Under → Bool → Bool
@@ -67,11 +87,8 @@ sendSetup c k =
 
 -- the k-th is answered: the next one follows, and the last sets framing as it was asked for
 abbrev pub setupDone : Client → ℕ → ℕ → Said Client Progress
-setupDone c zero n = sendSetup c 1
-setupDone c (suc zero) n = sendSetup c 2
-setupDone c (suc (suc zero)) n = sendSetup c 3
-setupDone c (suc (suc (suc zero))) n = sendSetup c 4
-setupDone c (suc (suc (suc (suc k)))) n = saying over (withUnder (withKnown c (withFraming (c .known) (c .known .wanted))) under.Nothing n) []
+setupDone c k n =
+    cond (ltb k 4) (sendSetup c (k + 1)) (saying over (withUnder (withKnown c (withFraming (c .known) (c .known .wanted))) under.Nothing n) [])
 
 -- "When complete, ATH1 sets framing, ATH0 or ATZ clears it: exact text in any case, whatever the reply said."
 abbrev pub afterEffect : FramingEffect → Bool → Bool
@@ -113,21 +130,14 @@ replyTakes c piece store =
     (cond (ltb 4096 (c .got + length piece)) (failing 8 c)
     (cond (high r) (failing 9 c) (progressed (c .under) c r)))
 
-abbrev pub numbered : {A : Type 0} → ℕ → Client → Said Client A → Said Client A
-numbered n c d = cond (eqb n 0) d (refusing n c)
-
--- what a piece says, by what is under way: 1 when no reply is awaited; 3 for "received piece over 128 (256 while the ATZ answer is awaited)"
-abbrev pub pieceUnder : Under → ℕ → Client → List ℕ → List ℕ → Said Client Progress
-pieceUnder under.Nothing room c piece store = refusing 1 c
-pieceUnder under.Reset room c piece store = numbered (pieceNumber 256 piece room (length store)) c (sendSetup c 0)
-pieceUnder (under.Setup k) room c piece store = numbered (pieceNumber 128 piece room (length store)) c (replyTakes c piece store)
-pieceUnder (under.Raw e) room c piece store = numbered (pieceNumber 128 piece room (length store)) c (replyTakes c piece store)
-pieceUnder under.Query room c piece store = numbered (pieceNumber 128 piece room (length store)) c (replyTakes c piece store)
-pieceUnder under.Repeat room c piece store = numbered (pieceNumber 128 piece room (length store)) c (replyTakes c piece store)
-pieceUnder under.Complete room c piece store = refusing 1 c
-
+-- a piece: 1; 3; 6 for room under 80 or a store under 4,096; then "while the ATZ answer is awaited .. any piece .. is dropped", and else it joins the reply
 unfoldable pub pieceSays : ℕ → Client → List ℕ → List ℕ → Said Client Progress
-pieceSays room c piece store = pieceUnder (c .under) room c piece store
+pieceSays room c piece store =
+    cond (isAwaited (c .under))
+    (cond (ltb (pieceLimit (c .under)) (length piece)) (refusing 3 c)
+    (cond (ltb room 80 || ltb (length store) 4096) (refusing 6 c)
+    (cond (isReset (c .under)) (sendSetup c 0) (replyTakes c piece store))))
+    (refusing 1 c)
 
 -- an accepted piece is appended to what the store holds of the reply; a number leaves the store
 abbrev pub appended : Answer Progress → ℕ → List ℕ → List ℕ → List ℕ
@@ -136,38 +146,19 @@ appended (result p) at piece store = sets store at piece
 
 -- the store afterwards: the dropped answer to ATZ is not stored
 abbrev pub stored : Under → Answer Progress → ℕ → List ℕ → List ℕ → List ℕ
-stored under.Nothing a at piece store = store
-stored under.Reset a at piece store = store
-stored (under.Setup k) a at piece store = appended a at piece store
-stored (under.Raw e) a at piece store = appended a at piece store
-stored under.Query a at piece store = appended a at piece store
-stored under.Repeat a at piece store = appended a at piece store
-stored under.Complete a at piece store = store
+stored u a at piece store = cond (isReset u) store (appended a at piece store)
 
--- a failed write or read, by what is under way
-abbrev pub failureUnder : Under → Bool → Client → Said Client Progress
-failureUnder under.Nothing write c = refusing 1 c
-failureUnder under.Reset true c = record { answer = refused 7; next = withUnder c under.Nothing 0; text = [] }
-failureUnder under.Reset false c = sendSetup c 0
-failureUnder (under.Setup k) write c = failing 7 c
-failureUnder (under.Raw e) write c = failing 7 c
-failureUnder under.Query write c = failing 7 c
-failureUnder under.Repeat write c = failing 7 c
-failureUnder under.Complete write c = refusing 1 c
+-- "While the ATZ answer is awaited .. a failed read is dropped, as in Rust; a failed write there ends the initialisation with 7 and changes nothing else."
+abbrev pub resetFails : Client → Bool → Said Client Progress
+resetFails c write = cond write (record { answer = refused 7; next = withUnder c under.Nothing 0; text = [] }) (sendSetup c 0)
 
--- what 1 asks of "a piece or failure": "an awaited reply"
-abbrev pub isAwaited : Under → Bool
-isAwaited under.Nothing = false
-isAwaited under.Reset = true
-isAwaited (under.Setup k) = true
-isAwaited (under.Raw e) = true
-isAwaited under.Query = true
-isAwaited under.Repeat = true
-isAwaited under.Complete = false
-
--- a failure that the host tells of: 1, then 6 for room under 80
+-- a failure that the host tells of: 1, 6 for room under 80, 7
 unfoldable pub failureSays : ℕ → Client → Bool → Said Client Progress
-failureSays room c write = cond (isAwaited (c .under)) (numbered (cond (ltb room 80) 6 0) c (failureUnder (c .under) write c)) (refusing 1 c)
+failureSays room c write =
+    cond (isAwaited (c .under))
+    (cond (ltb room 80) (refusing 6 c)
+    (cond (isReset (c .under)) (resetFails c write) (failing 7 c)))
+    (refusing 1 c)
 
 -- the cases of PieceAnswer, and of Failure
 abbrev pub pieceAnswer : PieceAnswer → Answer Progress

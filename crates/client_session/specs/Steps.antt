@@ -50,22 +50,13 @@ pub record Receives (d : Said Client Progress) (got : ℕ) (piece store out : Li
   pub does : Does d out (pieceServed r out₁)
   pub kept : store₁ ≡ appended (d .answer) got piece store
 
--- the answer to ATZ is awaited
-abbrev pub isReset : Under → Bool
-isReset under.Nothing = false
-isReset under.Reset = true
-isReset (under.Setup k) = false
-isReset (under.Raw e) = false
-isReset under.Query = false
-isReset under.Repeat = false
-isReset under.Complete = false
-
-abbrev pub pieceLimit : Under → ℕ
-pieceLimit u = cond (isReset u) 256 128
-
 -- the answer that a number alone gives: with none it is the result
 abbrev pub byNumber : {A : Type 0} → A → ℕ → Answer A
 byNumber a n = cond (eqb n 0) (result a) (refused n)
+
+-- the number of an awaited piece before its bytes are looked at
+abbrev pub pieceNumber : ℕ → List ℕ → ℕ → ℕ → ℕ
+pieceNumber limit piece room store = cond (ltb limit (length piece)) 3 (cond (ltb room 80) 6 (cond (ltb store 4096) 6 0))
 
 -- the number of a piece or failure: 1 out of turn
 abbrev pub turnNumber : Under → ℕ → ℕ

@@ -1,6 +1,6 @@
 -- A delivery, one piece after the other.
 use mathlib.Core.Path.{_≡_, refl, sym, ap, subst, _∙_}
-use mathlib.Core.Bool.{Bool, true, false, cond}
+use mathlib.Core.Bool.{Bool, true, false, cond, _||_}
 use mathlib.Core.List.{List, [], _∷_, _++_}
 use Prim.Native.Nat.{ℕ, zero, suc, _+_, _-_, _≤_, _<_, min}
 use native.Mathlib.Numerals.{add-one}
@@ -20,7 +20,7 @@ use Rattle.client_session.specs.declared.PieceAnswer.the-variants.{Awaited}
 use Rattle.client_session.specs.declared.ClientSession.{ClientSession}
 use Rattle.client_session.specs.declared.PieceStep.{PieceStep}
 use Rattle.client_session.specs.Session.{Client, client, withUnder}
-use Rattle.client_session.specs.Piece.{Progress, awaited, sent, over, complete, sendSetup, setupDone, completed, replyIn, replyTakes, numbered, pieceNumber, pieceUnder, pieceSays, stored, pieceAnswer, pieceReceived, pieceLent}
+use Rattle.client_session.specs.Piece.{Progress, awaited, sent, over, complete, isAwaited, isReset, pieceLimit, setupDone, completed, replyIn, replyTakes, pieceSays, stored, pieceAnswer, pieceReceived, pieceLent}
 use Rattle.client_session.specs.Piece as P
 use Rattle.client_session.specs.Pieces.{Fed, feedOn, fed}
 use Rattle.client_session.proofs.PieceLaws.{piece-fits}
@@ -174,11 +174,7 @@ module _ (c : Client) (piece store : List ℕ) where
   joins-any false d e p q = q
 
   setup-joins : (k n : ℕ) → Joins (setupDone c k n)
-  setup-joins zero n e = from-no (cc)
-  setup-joins (suc zero) n e = from-no (cc)
-  setup-joins (suc (suc zero)) n e = from-no (cc)
-  setup-joins (suc (suc (suc zero))) n e = from-no (cc)
-  setup-joins (suc (suc (suc (suc k)))) n e = from-no (cc)
+  setup-joins k n = joins-any (ltb k 4) _ _ (λ e. from-no (cc)) (λ e. from-no (cc))
 
   completed-joins : (u : Under) (r : List ℕ) → Joins (completed u c r)
   completed-joins under.Nothing r e = from-no (cc)
@@ -198,22 +194,15 @@ module _ (c : Client) (piece store : List ℕ) where
       (joins-any (high r) _ _ (λ e. from-no (cc))
       (joins-any (has 62 r) _ _ (completed-joins (c .under) r) (λ e. refl))))
 
-  number-joins : (n : ℕ) (d : Said Client Progress) → Joins d → Joins (numbered n c d)
-  number-joins n d q = joins-any (eqb n 0) d _ q (λ e. from-no (cc))
-
   pub piece-awaits : (room : ℕ) → awaits (pieceSays room c piece store .answer) ≡ true →
       pieceSays room c piece store ≡ saying awaited (withUnder c (c .under) (length (replyIn c store ++ piece))) []
   unfolding pieceSays
-  piece-awaits room = go (c .under)
-    where
-      go : (u : Under) → Joins (pieceUnder u room c piece store)
-      go under.Nothing e = from-no (cc)
-      go under.Reset e = number-joins (pieceNumber 256 piece room (length store)) (sendSetup c 0) (λ f. from-no (cc)) e
-      go (under.Setup k) e = number-joins (pieceNumber 128 piece room (length store)) (replyTakes c piece store) takes-joins e
-      go (under.Raw f) e = number-joins (pieceNumber 128 piece room (length store)) (replyTakes c piece store) takes-joins e
-      go under.Query e = number-joins (pieceNumber 128 piece room (length store)) (replyTakes c piece store) takes-joins e
-      go under.Repeat e = number-joins (pieceNumber 128 piece room (length store)) (replyTakes c piece store) takes-joins e
-      go under.Complete e = from-no (cc)
+  piece-awaits room =
+      joins-any (isAwaited (c .under)) _ _
+      (joins-any (ltb (pieceLimit (c .under)) (length piece)) _ _ (λ e. from-no (cc))
+      (joins-any (ltb room 80 || ltb (length store) 4096) _ _ (λ e. from-no (cc))
+      (joins-any (isReset (c .under)) _ _ (λ e. from-no (cc)) takes-joins)))
+      (λ e. from-no (cc))
 
 -- ---- a piece of the delivery, as the call that gave it was answered
 
