@@ -1,6 +1,6 @@
 -- What the private steps of the code do. No public contract cites these.
 use mathlib.Core.Path.{_≡_}
-use mathlib.Core.Bool.{Bool, true, false, cond}
+use mathlib.Core.Bool.{true, cond}
 use mathlib.Core.List.{List, _++_}
 use Prim.Native.Nat.{ℕ, _+_, _≤_}
 use lib.Dec.{eqb, ltb}
@@ -10,7 +10,6 @@ use Rattle.wire.specs.Call.{Said, Served}
 use Rattle.wire.specs.Put.{Put}
 use Rattle.wire.specs.Text.{high}
 use Rattle.client_session.specs.declared.Under.{Under}
-use Rattle.client_session.specs.declared.Under.the-variants as under
 use Rattle.client_session.specs.declared.ClientSession.{ClientSession}
 use Rattle.client_session.specs.declared.StartAnswer.{StartAnswer}
 use Rattle.client_session.specs.declared.StartAnswer.the-variants as start

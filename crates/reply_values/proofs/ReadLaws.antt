@@ -18,7 +18,7 @@ use Rattle.reply_lines.specs.Decode.{textLine, replyLines}
 use Rattle.reply_lines.proofs.DecodeLaws.{line-ecu}
 use Rattle.reply_values.specs.Values.{valuesOf, answerOrder}
 use Rattle.reply_values.specs.Learn.{lengthsAfter, learnCounts, givenPids}
-use Rattle.reply_values.specs.Read.{Asked, Reading, reading, fitted, readReply}
+use Rattle.reply_values.specs.Read.{Asked, Reading, reading, readInto, readReply}
 use Rattle.reply_values.specs.Steps.{valuesIn}
 use Rattle.reply_values.proofs.InLaws.{values-in}
 use Rattle.reply_values.proofs.SizeLaws.{reply-size}
@@ -85,7 +85,7 @@ module _ (framing : Bool) (text lengths : List ℕ) (short : length text ≤ 409
 -- a reply is read as its first 4,096 bytes are
 pub read-cut : (q : Asked) (reply out : List ℕ) {end : ℕ} → end ≡ min (length reply) 4096 → readReply q (take end reply) out ≡ readReply q reply out
 unfolding readReply
-read-cut q reply out {end} h = ap (λ t. fitted q (reading q t) out) (take-all 4096 (take end reply) (cut-short reply h) ∙ cut-same reply h)
+read-cut q reply out {end} h = ap (λ t. readInto q (reading q t) out) (take-all 4096 (take end reply) (cut-short reply h) ∙ cut-same reply h)
 
 -- what values teach, with the lengths that they were found by
 abbrev readingOf : Asked → List ℕ → List Value → Reading
@@ -104,12 +104,12 @@ module _ (q : Asked) (text : List ℕ) (short : length text ≤ 4096) {after : L
   found-size : size ≡ length (valuesBytes (answerOrder found))
   found-size = stored-size (q .framing) text after short room p ∙ ap (λ vs. length (valuesBytes vs)) (sym same) ∙ sym (order-size found)
 
-  read-found : (out : List ℕ) → readReply q text out ≡ fitted q (readingOf q after found) out
+  read-found : (out : List ℕ) → readReply q text out ≡ readInto q (readingOf q after found) out
   unfolding readReply
   read-found out =
-      ap (λ t. fitted q (reading q t) out) (take-all 4096 text short)
-      ∙ ap (λ ls. fitted q (readingOf q ls (valuesOf ls (replyLines (q .framing) text))) out) (sym learned)
-      ∙ ap (λ vs. fitted q (readingOf q after vs) out) (sym same)
+      ap (λ t. readInto q (reading q t) out) (take-all 4096 text short)
+      ∙ ap (λ ls. readInto q (readingOf q ls (valuesOf ls (replyLines (q .framing) text))) out) (sym learned)
+      ∙ ap (λ vs. readInto q (readingOf q after vs) out) (sym same)
 
   pub read-small : {out : List ℕ} → length out < size → record { answer = refused 6; lengths = q .lengths; counts = q .counts; out = out } ≡ readReply q text out
   read-small {out} h = sym (read-found out ∙ rw (lt-ltb (length out) (length (valuesBytes (answerOrder found))) (omega (arith, found-size))))

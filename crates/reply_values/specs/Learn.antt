@@ -4,7 +4,7 @@
 use mathlib.Core.Bool.{Bool, true, false, cond, _&&_, _||_}
 use mathlib.Core.List.{List, [], _∷_, _++_}
 use mathlib.Core.Option.{Option, none, some}
-use Prim.Native.Nat.{ℕ, zero, suc, _+_, min}
+use Prim.Native.Nat.{ℕ, suc, _+_, min}
 use lib.Dec.{eqb, leb}
 use lib.ListN.{length, set}
 use Rattle.wire.specs.Text.{has}

@@ -50,15 +50,15 @@ pub record ReadServed : Type 0 where
   pub out : List ℕ
 
 -- 6 when the values are longer than the buffer, with nothing learned or written
-abbrev pub fitted : Asked → Reading → List ℕ → ReadServed
-fitted q r out =
+abbrev pub readInto : Asked → Reading → List ℕ → ReadServed
+readInto q r out =
     let text = valuesBytes (r .values) in
     cond (ltb (length out) (length text)) (record { answer = refused 6; lengths = q .lengths; counts = q .counts; out = out })
     (record { answer = result (length (r .values) ∷ length text ∷ r .given ∷ []); lengths = r .lengths; counts = r .counts; out = sets out 0 text })
 
 -- a reply has at most 4,096 bytes
 unfoldable pub readReply : Asked → List ℕ → List ℕ → ReadServed
-readReply q reply out = fitted q (reading q (take 4096 reply)) out
+readReply q reply out = readInto q (reading q (take 4096 reply)) out
 
 -- the cases of ReadAnswer
 abbrev pub readAnswer : ReadAnswer → Answer (List ℕ)
