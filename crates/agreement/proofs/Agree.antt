@@ -7,7 +7,7 @@ use native.Mathlib.Omega.{arith}
 use lib.Dec.{eqb, ltb, leb}
 use lib.ListN.{length, take, drop, getD, set, length-append, length-set}
 use lib.Seq.{drop-append-seam, drop-length, getD-set-same, getD-set-other}
-use borrow.Author.Tests.{eqb-true, eqb-false, eq-eqb}
+use borrow.Author.Tests.{eqb-true, eqb-false}
 use Rattle.wire.proofs.Cases.{by-test, from-no}
 use Rattle.wire.proofs.All.{Bytes}
 use Rattle.group.proofs.GroupLaws.{bytes-append}
@@ -17,7 +17,7 @@ use Rattle.pid.proofs.TableLaws.{table-length, table-right}
 use Rattle.line_list.specs.Lines.{Line}
 use Rattle.value.specs.Values.{value}
 use Rattle.reply_values.specs.Values.{spanOf, walked, valuesOf}
-use Rattle.reply_values.specs.Learn.{Seen, nothing, only, differ, see, seeLine, seeLines, keepSeen, learnUnknown, learnLength}
+use Rattle.reply_values.specs.Learn.{shownBy, shownLengths, allEqual, agreed, withLength, learnUnknown, learnLength}
 use Rattle.reply_values.proofs.WalkLaws.{walked-nil, walked-cons}
 use Rattle.line_list.proofs.LinesLaws.{AllBytes}
 use Rattle.agreement.specs.Lines.{PidValues, end, next, LineData, alone, table, GoodLines}
@@ -75,42 +75,44 @@ values-agree L lengths a (l ∷ ls) g b =
 
 -- ---- a length learned from a reply to one PID is the run's
 
--- what the lines so far say is nothing, or the run's length
-abbrev Right : (ℕ → ℕ) → ℕ → Seen → Type 0
-Right L p nothing = Unit {0}
-Right L p (only n) = n ≡ L p
-Right L p differ = ⊥
+-- every length that the lines show is the run's
+abbrev EachRight : (ℕ → ℕ) → ℕ → List ℕ → Type 0
+EachRight L p [] = Unit {0}
+EachRight L p (n ∷ ns) = (n ≡ L p) × EachRight L p ns
 
-see-right : (L : ℕ → ℕ) (p n : ℕ) (k : Seen) → n ≡ L p → Right L p k → Right L p (see k n)
-see-right L p n nothing i r = i
-see-right L p n (only m) i r = rw (eq-eqb m n (r ∙ sym i)) r
-see-right L p n differ i r = r
-
-see-line : (L : ℕ → ℕ) (p : ℕ) (k : Seen) {s : List ℕ} → j1979 p ≡ none → LineData L s → Right L p k → Right L p (seeLine p (0x41 ∷ s) k)
-see-line L p k h (alone q d i j) r =
+show-line : (L : ℕ → ℕ) (p : ℕ) (ns : List ℕ) {s : List ℕ} → j1979 p ≡ none → LineData L s → EachRight L p ns → EachRight L p (shownBy p (0x41 ∷ s) ++ ns)
+show-line L p ns h (alone q d i j) r =
     by-test (eqb q p)
     (λ t.
     let same = eqb-true q p t in
-    rw t (by-test (leb (length d) 255) (λ u. rw u (see-right L p (length d) k (j ∙ ap L same) r)) (λ u. rw u r)))
+    rw t (by-test (leb (length d) 255) (λ u. rw u (j ∙ ap L same, r)) (λ u. rw u r)))
     (λ t. rw t r)
-see-line L p k h (table q d (next q′ d′ s′ r′ i j t)) r =
+show-line L p ns h (table q d (next q′ d′ s′ r′ i j t)) r =
     by-test (eqb q p)
     (λ t. let same = eqb-true q p t in from-no cc)
     (λ t. rw t r)
 
-see-lines : (L : ℕ → ℕ) (p : ℕ) → j1979 p ≡ none → (ls : List Line) → GoodLines L ls → (k : Seen) → Right L p k → Right L p (seeLines p ls k)
-see-lines L p h [] g k r = r
-see-lines L p h (l ∷ ls) g k r =
+show-lines : (L : ℕ → ℕ) (p : ℕ) → j1979 p ≡ none → (ls : List Line) → GoodLines L ls → EachRight L p (shownLengths p ls)
+show-lines L p h [] g = tt
+show-lines L p h (l ∷ ls) g =
     let (s, q, t) = g .0 in
-    see-lines L p h ls (g .1) (seeLine p (l .bytes) k) (rw q (see-line L p k h t r))
+    rw q (show-line L p (shownLengths p ls) h t (show-lines L p h ls (g .1)))
+
+-- so what they agree on is nothing, or the run's length
+abbrev Right : (ℕ → ℕ) → ℕ → Option ℕ → Type 0
+Right L p none = Unit {0}
+Right L p (some n) = n ≡ L p
+
+agreed-right : (L : ℕ → ℕ) (p : ℕ) (ns : List ℕ) → EachRight L p ns → Right L p (agreed ns)
+agreed-right L p [] r = tt
+agreed-right L p (n ∷ ns) r = by-test (allEqual n ns) (λ t. rw t (r .0)) (λ t. rw t tt)
 
 entry : (n m : ℕ) → entryLength n ≡ some m → n ≡ m
 entry n m q = by-test (ltb n unknown) (λ t. let r = rw t at q in cc) (λ t. let r = rw t at q in from-no cc)
 
-kept : (L : ℕ → ℕ) (lengths : List ℕ) (p : ℕ) (k : Seen) → p < 256 → j1979 p ≡ none → Right L p k → Agree L lengths → Agree L (keepSeen lengths p k)
-kept L lengths p nothing b h r a = a
-kept L lengths p differ b h r a = absurd r
-kept L lengths p (only n) b h r a = record {
+kept : (L : ℕ → ℕ) (lengths : List ℕ) (p : ℕ) (o : Option ℕ) → p < 256 → j1979 p ≡ none → Right L p o → Agree L lengths → Agree L (withLength lengths p o)
+kept L lengths p none b h r a = a
+kept L lengths p (some n) b h r a = record {
   known = λ q m c i. ap entryLength (getD-set-other lengths p q n 0 (λ z. from-no cc)) ∙ a .known q m c i;
   learned = λ q m c i f.
       by-test (eqb q p)
@@ -131,7 +133,7 @@ learned-by : (L : ℕ → ℕ) (lengths : List ℕ) (p : ℕ) (ls : List Line) (
 learned-by L lengths p ls (some n) b a g q = a
 learned-by L lengths p ls none b a g q =
     let h = outside L lengths p (j1979 p) b a refl q in
-    kept L lengths p (seeLines p ls nothing) b h (see-lines L p h ls g nothing tt) a
+    kept L lengths p (agreed (shownLengths p ls)) b h (agreed-right L p (shownLengths p ls) (show-lines L p h ls g)) a
 
 pub learn-agree : (L : ℕ → ℕ) (lengths : List ℕ) (p : ℕ) (ls : List Line) → p < 256 → Agree L lengths → GoodLines L ls → Agree L (learnLength lengths p ls)
 unfolding learnLength

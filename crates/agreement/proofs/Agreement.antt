@@ -18,7 +18,7 @@ use Rattle.script.specs.Written.{AllInLimits}
 use Rattle.script.proofs.ScriptLaws.{script-limits}
 use Rattle.bench.specs.Run.{Run, Recorded, runAnswer}
 use Rattle.agreement.specs.Vehicle.{given}
-use Rattle.agreement.specs.Demand.{givens, commands, fitting, partsIn, SameFirst, Drive, hireRecord, standing, comesTo, EveryFits, Holds, Agreement}
+use Rattle.agreement.specs.Demand.{givens, commands, fitting, partsIn, SameFirst, Drive, hireRecord, partsStanding, comesTo, EveryFits, Holds, Agreement}
 use Rattle.agreement.proofs.Finished.{answer-reordered}
 use Rattle.agreement.proofs.Ran.{script-ready, run-told}
 use Rattle.agreement.proofs.Told.{ordered, given-fits, told, fitting-few, told-parts, told-handed, told-inside, told-whole}
@@ -119,7 +119,7 @@ module _ (d : Drive) where
       let put : Put (d .lentBuffer) 0 (comesTo d .parts) (d .run .written) (d .buffer) = record { next = omega arith; bytes = b } in
       put-front put ∙ take-all room (comesTo d .parts) inside ∙ ap (λ (r : Run). r .parts) (ran d) ∙ told-parts room (d .queries)
 
-  stand-is : standing d ≡ count
+  stand-is : partsStanding d ≡ count
   stand-is = ap (λ s. partsIn (readRecord s)) record-is ∙ ap partsIn (record-back parts parts-fit) ∙ count-parts
 
   answer-is : runAnswer (d .run .answer) ≡ told room (d .queries) .answer

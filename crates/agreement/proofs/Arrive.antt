@@ -66,7 +66,7 @@ module _ (room : ℕ) (c : Client) (store st p : List ℕ) (ps : List (List ℕ)
   past : 4096 < length st + length p → fed room c store (p ∷ ps) .said .answer ≡ refused 8
   past h =
       let e : pieceSays room c p store ≡ failing 8 c =
-      piece-joined room c p store (w .out) (w .size) (w .turn) (w .reply) (z .1) ∙ takes-too-much c p store (λ n. omega (arith, z .0)) (omega (arith, w .got)) in
+      piece-joined room c p store (w .turn) (w .out) (w .size) (w .reply) (z .1) ∙ takes-too-much c p store (λ n. omega (arith, z .0)) (omega (arith, w .got)) in
       ap (λ d. step d .said .answer) e
 
   module _ (fits : length st + length p ≤ 4096) where

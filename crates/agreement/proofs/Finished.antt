@@ -19,11 +19,12 @@ use Rattle.reply.proofs.ByteLaws.{reply-low}
 use Rattle.reply_lines.specs.Decode.{replyLines}
 use Rattle.reply_values.specs.Values.{valuesOf, answerOrder}
 use Rattle.reply_values.specs.Learn.{lengthsAfter}
+use Rattle.reply_values.specs.Read.{Reading, reading}
 use Rattle.reply_values.proofs.SizeLaws.{reply-size}
 use Rattle.client_session.specs.declared.Under.the-variants as under
 use Rattle.client_session.specs.Session.{Client}
 use Rattle.client_session.specs.Piece.{replyIn}
-use Rattle.client_session.specs.Finish.{isComplete, finished, finishSays}
+use Rattle.client_session.specs.Finish.{question, isComplete, finished, finishSays}
 use Rattle.client_session.proofs.FinishLaws.{finish-low}
 use Rattle.bench.specs.Run.{valuesRoom}
 use Rattle.line_list.proofs.LinesLaws.{AllBytes}
@@ -47,12 +48,9 @@ answer-reordered vs = record { count = refl; size = refl; pids = λ p. refl; fit
 
 -- ---- any complete reply
 
--- the lengths that a session knows after its query was answered by lines, and a finish with the values that it then finds in them
-abbrev pub lengthsThen : Client → List Line → List ℕ
+-- the lengths that a session knows after its query was answered by lines
+abbrev lengthsThen : Client → List Line → List ℕ
 lengthsThen c ls = lengthsAfter (c .query .several) (c .query .pids) (c .known .lengths) ls
-
-abbrev pub finishedWith : Client → List Line → Said Client ℕ
-finishedWith c ls = finished c (lengthsThen c ls) (valuesOf (lengthsThen c ls) ls)
 
 -- The query of a session c is over, and the next session n keeps what does not depend on the reply.
 pub record Over (c n : Client) : Type 0 where
@@ -64,12 +62,12 @@ pub record Over (c n : Client) : Type 0 where
   pub repeat : n .known .repeat ≡ c .known .repeat
   pub last : n .known .last ≡ c .known .last
 
-over-with : (c : Client) (lengths : List ℕ) (vs : List Value) → Over c (finished c lengths vs .next)
-over-with c lengths vs = record { under = refl; got = refl; query = refl; wanted = refl; framing = refl; repeat = refl; last = refl }
+over-with : (c : Client) (r : Reading) → Over c (finished c r .next)
+over-with c r = record { under = refl; got = refl; query = refl; wanted = refl; framing = refl; repeat = refl; last = refl }
 
 module _ (c : Client) (store : List ℕ) (turn : isComplete (c .under) ≡ true) (size : 4096 ≤ length store) (low : high (replyIn c store) ≡ false) where
   -- a reply has at most 4,096 bytes below 80 hex, so its values fit
-  pub finish-fits : finishSays valuesRoom c store ≡ finishedWith c (replyLines (c .known .framing) (replyIn c store))
+  pub finish-fits : finishSays valuesRoom c store ≡ finished c (reading (question c) (replyIn c store))
   finish-fits =
       let reply = replyIn c store in
       let ls = replyLines (c .known .framing) reply in
@@ -82,9 +80,8 @@ module _ (c : Client) (store : List ℕ) (turn : isComplete (c .under) ≡ true)
   -- so the finish gets no number
   pub finish-any : (n : ℕ) × (finishSays valuesRoom c store .answer ≡ result n) × Over c (finishSays valuesRoom c store .next)
   finish-any =
-      let ls = replyLines (c .known .framing) (replyIn c store) in
-      let lengths = lengthsThen c ls in
-      rw finish-fits (length (valuesOf lengths ls), refl, over-with c lengths (valuesOf lengths ls))
+      let r = reading (question c) (replyIn c store) in
+      rw finish-fits (length (r .values), refl, over-with c r)
 
 -- ---- the reply to a run's lines
 
@@ -120,6 +117,14 @@ finish-given L c store l ls turn size framed r fit bytes good pids a =
     let a′ : Agree L lengths = after-agree L (c .query .several) (c .query .pids) (c .known .lengths) (map known (l ∷ ls)) pids a good′ in
     let found : valuesOf lengths (map known (l ∷ ls)) ≡ given (l ∷ ls) =
     values-agree L lengths a′ (map known (l ∷ ls)) good′ (known-bytes (l ∷ ls) bytes) ∙ sym (given-values (l ∷ ls) bytes) in
-    let says : finishSays valuesRoom c store ≡ finished c lengths (given (l ∷ ls)) =
-    finish-fits c store turn size (ap high r ∙ reply-low false false true (l ∷ ls)) ∙ ap (finishedWith c) back ∙ ap (finished c lengths) found in
-    rw says (record { answer = refl; text = refl; over = over-with c lengths (given (l ∷ ls)); agree = a′ })
+    let says = finish-fits c store turn size (ap high r ∙ reply-low false false true (l ∷ ls)) in
+    let gives = reading (question c) (replyIn c store) in
+    let values : gives .values ≡ answerOrder (given (l ∷ ls)) = ap (λ ls. answerOrder (valuesOf (lengthsThen c ls) ls)) back ∙ ap answerOrder found in
+    let same : gives .lengths ≡ lengths = ap (lengthsThen c) back in
+    rw says
+    (record {
+      answer = ap result (ap length values ∙ answer-reordered (given (l ∷ ls)) .count);
+      text = ap valuesBytes values;
+      over = over-with c gives;
+      agree = rw same a′;
+    })

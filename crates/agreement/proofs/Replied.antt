@@ -17,8 +17,7 @@ use Rattle.client_session.specs.declared.Under.{Under}
 use Rattle.client_session.specs.declared.Under.the-variants as under
 use Rattle.client_session.specs.Session.{Known, Client, withUnder, withKnown, withLast, withRepeat}
 use Rattle.client_session.specs.Start.{isNothing, newQuery, queryStarted}
-use Rattle.client_session.specs.Piece.{complete, isAwaited, replyIn}
-use Rattle.client_session.specs.Steps.{isReset}
+use Rattle.client_session.specs.Piece.{complete, isAwaited, isReset, replyIn}
 use Rattle.client_session.proofs.StartLaws.{pid-starts, pids-starts}
 use Rattle.client_session.proofs.PiecesLaws.{Awaiting, prompted}
 use Rattle.exchange.specs.Exchange.{Exchanged, exchanged}

@@ -37,7 +37,7 @@ use Rattle.exchange.specs.Deliver.{pieces, delivered}
 use Rattle.bench.specs.declared.RunAnswer.the-variants.{Complete}
 use Rattle.bench.specs.Run.{initialised, part, runSays, recorded, lent}
 use Rattle.agreement.specs.Lines.{end, next, alone, table}
-use Rattle.agreement.specs.Demand.{GoodQueries, Drive, hireRecord, standing, comesTo}
+use Rattle.agreement.specs.Demand.{GoodQueries, Drive, hireRecord, partsStanding, comesTo}
 use Rattle.agreement.proofs.Agreement.{agreement}
 
 -- engine speed from an unknown ECU, or from 7E8, with the low byte of its value; and the maker's own PID E0
@@ -119,7 +119,7 @@ unfolding has high isSpace raised hexDigit digit leading j1979 mode01Lengths gro
 third = others 0xF9 refl refl refl
 
 -- two parts stand in the first one's record, and its vehicle was handed the two queries' texts
-first-run : (standing first ≡ 2) × (comesTo first .handed ≡ ascii "010C1" ∷ ascii "01E0" ∷ [])
+first-run : (partsStanding first ≡ 2) × (comesTo first .handed ≡ ascii "010C1" ∷ ascii "01E0" ∷ [])
 unfolding first readRecord has high isSpace raised hexDigit digit leading j1979 mode01Lengths groupBytes lineList valueBytes atKind lineText replyText canonical byteNumber byteTaken byteSays bytesSay answerSays replySays queryText textLines textLine replyLines walked answerOrder learnLength initSays queryPidSays queryPidsSays replyTakes pieceSays finishSays script exchanged pieces delivered initialised part runSays
 first-run = (refl, refl)
 

@@ -86,8 +86,8 @@ abbrev pub hireRecord : Drive → List ℕ
 hireRecord d = take (d .run .written) (d .buffer)
 
 -- how many queries' parts stand, as the record is read, and all that the run comes to
-abbrev pub standing : Drive → ℕ
-standing d = partsIn (readRecord (hireRecord d))
+abbrev pub partsStanding : Drive → ℕ
+partsStanding d = partsIn (readRecord (hireRecord d))
 
 abbrev pub comesTo : Drive → Run
 comesTo d = runSays (d .repeat) (d .pieces) (length (d .lentBuffer)) (d .scriptBytes)
@@ -99,11 +99,11 @@ EveryFits d = fitting (length (d .lentBuffer)) (d .queries) ≡ length (d .queri
 -- What holds of each run.
 pub record Holds (d : Drive) : Type 0 where
   -- the parts stand of just those queries, from the first on, that fit the limits; and where all fit, no number ends the run
-  pub stand : standing d ≡ fitting (length (d .lentBuffer)) (d .queries)
+  pub stand : partsStanding d ≡ fitting (length (d .lentBuffer)) (d .queries)
   pub whole : EveryFits d → runAnswer (d .run .answer) ≡ result tt
   -- "the OBD commands handed to the vehicle are exactly the queries' own texts less spaces, one for each query in the list's order, repeats included"; where 8 or
   -- 6 ends the run, up to the query that ended it
-  pub handed : comesTo d .handed ≡ take (suc (standing d)) (commands (d .queries))
+  pub handed : comesTo d .handed ≡ take (suc (partsStanding d)) (commands (d .queries))
 
 -- What holds of two runs.
 pub record Agreement (d e : Drive) : Type 0 where
@@ -113,5 +113,5 @@ pub record Agreement (d e : Drive) : Type 0 where
   pub equal : EveryFits d → EveryFits e →
       SameRecord (hireRecord d) (hireRecord e) ↔ SameQueries (givens (d .queries)) (givens (e .queries))
   -- "Where 8 or 6 ends a run, the claim holds, in both runs, of the queries before that point, whose parts stand" (document 01)
-  pub before : (n : ℕ) → n ≤ standing d → n ≤ standing e →
+  pub before : (n : ℕ) → n ≤ partsStanding d → n ≤ partsStanding e →
       SameFirst n (hireRecord d) (hireRecord e) ↔ SameQueries (take n (givens (d .queries))) (take n (givens (e .queries)))

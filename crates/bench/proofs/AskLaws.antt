@@ -11,9 +11,7 @@ use Rattle.wire.specs.Call.{Said, Served, lent}
 use Rattle.wire.specs.Text.{high}
 use Rattle.wire.proofs.Cases.{by-test}
 use Rattle.group.specs.Group.{groupBytes}
-use Rattle.reply_lines.specs.Decode.{replyLines}
-use Rattle.reply_values.specs.Values.{valuesOf}
-use Rattle.reply_values.specs.Learn.{lengthsAfter}
+use Rattle.reply_values.specs.Read.{reading}
 use Rattle.server_session.specs.Session.{session}
 use Rattle.client_session.specs.declared.StartStep.{StartStep}
 use Rattle.client_session.specs.declared.PieceAnswer.{PieceAnswer}
@@ -22,7 +20,7 @@ use Rattle.client_session.specs.declared.FinishStep.{FinishStep}
 use Rattle.client_session.specs.Session.{Client, client}
 use Rattle.client_session.specs.Start.{queryPidSays, queryPidsSays, startServed}
 use Rattle.client_session.specs.Piece.{Progress, awaited, sent, over, complete, pieceAnswer, replyIn}
-use Rattle.client_session.specs.Finish.{isComplete, finished as values-said, roomFor, finishReply, finishSays, finishAnswer, finishServed}
+use Rattle.client_session.specs.Finish.{question, isComplete, finished as values-said, roomFor, finishReply, finishSays, finishAnswer, finishServed}
 use Rattle.client_session.proofs.StartLaws.{pid-fits, pids-fits}
 use Rattle.bench.specs.declared.Bench as code
 use Rattle.bench.specs.declared.Turn as code-turn
@@ -65,10 +63,7 @@ room-fits : (room : ℕ) (c : Client) (d : Said Client ℕ) → length (roomFor 
 room-fits room c d = by-test (ltb room (length (d .text))) (λ e. rw e (omega arith)) (λ e. rw e (ltb-false room (length (d .text)) e))
 
 reply-fits : (room : ℕ) (c : Client) (reply : List ℕ) → length (finishReply room c reply .text) ≤ room
-reply-fits room c reply =
-    let ls = replyLines (c .known .framing) reply in
-    let lengths = lengthsAfter (c .query .several) (c .query .pids) (c .known .lengths) ls in
-    room-fits room c (values-said c lengths (valuesOf lengths ls))
+reply-fits room c reply = room-fits room c (values-said c (reading (question c) reply))
 
 pub finish-fits : (room : ℕ) (c : Client) (store : List ℕ) → length (finishSays room c store .text) ≤ room
 unfolding finishSays

@@ -5,7 +5,8 @@ use Rattle.hex.specs.Digits.{hexDigit}
 use Rattle.line_list.specs.Lines.{lineList}
 use Rattle.at_command.specs.Dialect.{atKind}
 use Rattle.reply.specs.Reply.{lineText, replyText}
-use Rattle.reply.specs.Answers.{replied, replySize}
+use Rattle.reply.specs.Answers.{replied}
+use Rattle.reply.specs.Steps.{replySize}
 use Rattle.server_session.specs.Bytes.{canonical, byteNumber, byteTaken, byteSays, bytesSay}
 use Rattle.server_session.specs.Replies.{answerSays, replySays, rejectSays}
 use Rattle.exchange.specs.Exchange.{exchanged}

@@ -12,9 +12,9 @@ use Rattle.wire.specs.Text.{ascii}
 use Rattle.pid.specs.Lengths.{mode01Lengths, lengthIn}
 use Rattle.line_list.specs.Lines.{line}
 use Rattle.value.specs.Values.{value}
-use Rattle.reply_values.specs.Learn.{learnLength, countOf}
+use Rattle.reply_values.specs.Learn.{learnLength, ecusGiving}
 use Rattle.reply_values.specs.declared.ReadAnswer.the-variants as read
-use Rattle.reply_values.specs.Read.{Read, replyRead, asked, readReply}
+use Rattle.reply_values.specs.Read.{ReadServed, replyRead, asked, readReply}
 use Rattle.server_state.specs.declared.FeatureSupport.the-variants as support
 use Rattle.server_state.specs.State.{countIn}
 use Rattle.client_session.specs.declared.Under.the-variants as under
@@ -48,7 +48,7 @@ abbrev bothEcus : Said Client ℕ
 bothEcus = answering (queryPidSays 80 framed 0xE0 0) alike
 
 -- a reply read for `query_pid` of E0, framed, with so much room
-abbrev readUnlike : ℕ → Read
+abbrev readUnlike : ℕ → ReadServed
 readUnlike room = readReply (asked true false (0xE0 ∷ []) mode01Lengths (replicate 256 0)) (ascii unlike) (replicate room 9)
 
 -- the count of a PID, as a query has it, after a query of it
@@ -75,7 +75,7 @@ learning =
     (countAfter new 0x0C "410C1AF8\r410C1AF8\r\r>" ∷ countAfter framed 0x0C "7E804410C1AF8\r7E804410C1AF8\r\r>" ∷ countAfter framed 0x0C "7E804410C1AF8\r7E904410C1AF8\r\r>" ∷ countAfter framed 0x31 "A12\r\r>" ∷ [])
     (3 ∷ 2 ∷ 3 ∷ 0 ∷ []) ∷
     example "a count is learned once" (countAfter (answering (queryPidSays 80 framed 0x0C 0) "7E804410C1AF8\r\r>" .next) 0x0C "7E804410C1AF8\r7E904410C1AF8\r\r>") 2 ∷
-    example "256 occurrences" (countOf false (replicate 256 (value 0x0C 0 []))) 255 ∷
+    example "256 occurrences" (ecusGiving false (replicate 256 (value 0x0C 0 []))) 255 ∷
     example "a known length is clamped to the line" (answering (queryPidSays 80 new 0x0C 0) "410C1A\r\r>" .text) (0x0C ∷ 0x00 ∷ 0x03 ∷ 0x41 ∷ 0x0C ∷ 0x1A ∷ []) ∷
     example "lines that do not start with 41, or have one byte" (answering (queryPidSays 80 new 0x0C 0) "7F0112\r41\r\r>" .text) [] ∷
     example "a finish out of turn, with room for 17 bytes, and of a store that is short or holds a byte of 80"

@@ -10,7 +10,8 @@ use Rattle.wire.specs.Text.{ascii}
 use Rattle.client_state.specs.Settings.{Settings, fresh}
 use Rattle.at_command.specs.Dialect.{atKind, identityOf}
 use Rattle.reply.specs.Shape.{chipReply}
-use Rattle.reply.specs.Answers.{replied, replySize}
+use Rattle.reply.specs.Answers.{replied}
+use Rattle.reply.specs.Steps.{replySize}
 use Rattle.reply.specs.Answers as reply
 use Rattle.reply.specs.declared.ReplyAnswer.the-variants as written
 use Rattle.server_session.specs.Session.{Session, freshSession}

@@ -2,9 +2,9 @@
 use mathlib.Core.Path.{_≡_, refl, sym, ap, _∙_}
 use mathlib.Core.Bool.{true, false}
 use mathlib.Core.List.{List, [], _∷_, _++_, append-assoc, append-nil}
-use Prim.Native.Nat.{ℕ, zero, suc, _+_, _≤_, _<_}
+use Prim.Native.Nat.{ℕ, _+_, _≤_, _<_}
 use native.Mathlib.Omega.{arith}
-use lib.Dec.{eqb}
+use lib.Dec.{eqb, ltb}
 use lib.ListN.{length, take, length-append}
 use lib.Seq.{sets, length-sets}
 use Rattle.wire.specs.Call.{Said, saying}
@@ -16,9 +16,8 @@ use Rattle.wire.proofs.TextLaws.{has-append, high-append}
 use Rattle.client_session.specs.declared.Under.{Under}
 use Rattle.client_session.specs.declared.Under.the-variants as under
 use Rattle.client_session.specs.Session.{Client, withUnder}
-use Rattle.client_session.specs.Piece.{Progress, awaited, completed, replyIn, progressed, pieceSays, appended, stored, isAwaited}
+use Rattle.client_session.specs.Piece.{Progress, awaited, isAwaited, isReset, completed, replyIn, progressed, pieceSays, appended, stored}
 use Rattle.client_session.specs.Pieces.{Fed, feedOn, fed, joined, Sized}
-use Rattle.client_session.specs.Steps.{isReset}
 use Rattle.client_session.proofs.PieceLaws.{takes-on, piece-joined}
 use Rattle.client_session.proofs.StoreLaws.{store-holds, reply-in, stored-joined, progressed-stored}
 
@@ -41,14 +40,14 @@ module _ (room : ℕ) (c : Client) (store st p : List ℕ) (w : Awaiting room c 
   pub piece-progressed : pieceSays room c p store ≡ progressed (c .under) c (st ++ p)
   piece-progressed =
       let e : replyIn c store ++ p ≡ st ++ p = ap (λ t. t ++ p) so-far in
-      piece-joined room c p store (w .out) (w .size) (w .turn) (w .reply) short ∙
+      piece-joined room c p store (w .turn) (w .out) (w .size) (w .reply) short ∙
       takes-on c p store (λ z. omega arith) (omega (arith, w .got)) (ap high e ∙ low) ∙
       ap (progressed (c .under) c) e
 
   -- the store then holds it too
   pub piece-stored : stored (c .under) (pieceSays room c p store .answer) (c .got) p store ≡ sets store (c .got) p
   piece-stored =
-      stored-joined (c .under) (pieceSays room c p store .answer) (c .got) p store (w .turn) (w .reply) ∙
+      stored-joined (c .under) (pieceSays room c p store .answer) (c .got) p store (w .reply) ∙
       ap (λ (d : Said Client Progress). appended (d .answer) (c .got) p store) piece-progressed ∙
       progressed-stored (c .under) c (st ++ p) (c .got) p store (w .turn)
 
@@ -79,11 +78,7 @@ module _ (room : ℕ) (c : Client) (store st p : List ℕ) (w : Awaiting room c 
 completed-under : (u : Under) (c : Client) (n : ℕ) (r : List ℕ) → isAwaited u ≡ true → completed u (withUnder c u n) r ≡ completed u c r
 completed-under under.Nothing c n r e = from-no (cc)
 completed-under under.Reset c n r e = refl
-completed-under (under.Setup zero) c n r e = refl
-completed-under (under.Setup (suc zero)) c n r e = refl
-completed-under (under.Setup (suc (suc zero))) c n r e = refl
-completed-under (under.Setup (suc (suc (suc zero)))) c n r e = refl
-completed-under (under.Setup (suc (suc (suc (suc k))))) c n r e = refl
+completed-under (under.Setup k) c n r e = refl
 completed-under (under.Raw f) c n r e = refl
 completed-under under.Query c n r e = refl
 completed-under under.Repeat c n r e = refl
@@ -92,11 +87,7 @@ completed-under under.Complete c n r e = from-no (cc)
 completed-stops : (u : Under) (c : Client) (r : List ℕ) (stop more : Fed) → isAwaited u ≡ true → feedOn (completed u c r .answer) stop more ≡ stop
 completed-stops under.Nothing c r stop more e = from-no (cc)
 completed-stops under.Reset c r stop more e = refl
-completed-stops (under.Setup zero) c r stop more e = refl
-completed-stops (under.Setup (suc zero)) c r stop more e = refl
-completed-stops (under.Setup (suc (suc zero))) c r stop more e = refl
-completed-stops (under.Setup (suc (suc (suc zero)))) c r stop more e = refl
-completed-stops (under.Setup (suc (suc (suc (suc k))))) c r stop more e = refl
+completed-stops (under.Setup k) c r stop more e = by-test (ltb k 4) (λ q. rw q) (λ q. rw q)
 completed-stops (under.Raw f) c r stop more e = refl
 completed-stops under.Query c r stop more e = refl
 completed-stops under.Repeat c r stop more e = by-test (has 63 r) (λ q. rw q) (λ q. rw q)

@@ -2,8 +2,9 @@
 use mathlib.Core.Path.{_≡_, refl, sym, ap, _∙_}
 use mathlib.Core.Bool.{Bool, true, false}
 use mathlib.Core.List.{List, _++_}
-use Prim.Native.Nat.{ℕ, zero, suc, _+_, _≤_}
+use Prim.Native.Nat.{ℕ, _+_, _≤_}
 use native.Mathlib.Omega.{arith}
+use lib.Dec.{ltb}
 use lib.ListN.{length, take, drop, length-append, length-take}
 use lib.Seq.{sets, sets-eq, take-at, take-take}
 use Rattle.wire.specs.Answer.{Answer, result, refused}
@@ -14,8 +15,7 @@ use Rattle.wire.proofs.Cases.{by-test, from-no}
 use Rattle.client_session.specs.declared.Under.{Under}
 use Rattle.client_session.specs.declared.Under.the-variants as under
 use Rattle.client_session.specs.Session.{Client}
-use Rattle.client_session.specs.Piece.{Progress, awaited, sent, over, complete, setupDone, completed, replyIn, progressed, appended, stored, isAwaited}
-use Rattle.client_session.specs.Steps.{isReset}
+use Rattle.client_session.specs.Piece.{Progress, awaited, sent, over, complete, isAwaited, isReset, setupDone, completed, replyIn, progressed, appended, stored}
 
 -- the reply so far, with a piece appended, stands at the front of the store
 pub store-holds : (store : List ℕ) (got : ℕ) (piece : List ℕ) → got + length piece ≤ length store → take (got + length piece) (sets store got piece) ≡ take got store ++ piece
@@ -41,42 +41,20 @@ joined-reply c piece store {end} {store₁} p h k =
 
 -- a number leaves the store, and so does what is dropped
 pub stored-refused : (u : Under) (n at : ℕ) (piece store : List ℕ) → stored u (refused n) at piece store ≡ store
-stored-refused under.Nothing n at piece store = refl
-stored-refused under.Reset n at piece store = refl
-stored-refused (under.Setup k) n at piece store = refl
-stored-refused (under.Raw e) n at piece store = refl
-stored-refused under.Query n at piece store = refl
-stored-refused under.Repeat n at piece store = refl
-stored-refused under.Complete n at piece store = refl
+stored-refused u n at piece store = by-test (isReset u) (λ e. rw e) (λ e. rw e)
 
 pub stored-dropped : (u : Under) (a : Answer Progress) (at : ℕ) (piece store : List ℕ) → isReset u ≡ true → stored u a at piece store ≡ store
-stored-dropped under.Nothing a at piece store e = refl
-stored-dropped under.Reset a at piece store e = refl
-stored-dropped (under.Setup k) a at piece store e = from-no (cc)
-stored-dropped (under.Raw f) a at piece store e = from-no (cc)
-stored-dropped under.Query a at piece store e = from-no (cc)
-stored-dropped under.Repeat a at piece store e = from-no (cc)
-stored-dropped under.Complete a at piece store e = refl
+stored-dropped u a at piece store e = rw e
 
-pub stored-joined : (u : Under) (a : Answer Progress) (at : ℕ) (piece store : List ℕ) → isAwaited u ≡ true → isReset u ≡ false → stored u a at piece store ≡ appended a at piece store
-stored-joined under.Nothing a at piece store e f = from-no (cc)
-stored-joined under.Reset a at piece store e f = from-no (cc)
-stored-joined (under.Setup k) a at piece store e f = refl
-stored-joined (under.Raw x) a at piece store e f = refl
-stored-joined under.Query a at piece store e f = refl
-stored-joined under.Repeat a at piece store e f = refl
-stored-joined under.Complete a at piece store e f = from-no (cc)
+pub stored-joined : (u : Under) (a : Answer Progress) (at : ℕ) (piece store : List ℕ) → isReset u ≡ false → stored u a at piece store ≡ appended a at piece store
+stored-joined u a at piece store e = rw e
 
 -- a reply that goes on or is complete gets no number
 abbrev Taken : Said Client Progress → Type 0
 Taken d = (p : Progress) × (d .answer ≡ result p)
 
 setup-taken : (c : Client) (k n : ℕ) → Taken (setupDone c k n)
-setup-taken c zero n = (sent, refl)
-setup-taken c (suc zero) n = (sent, refl)
-setup-taken c (suc (suc zero)) n = (sent, refl)
-setup-taken c (suc (suc (suc zero))) n = (sent, refl)
-setup-taken c (suc (suc (suc (suc k)))) n = (over, refl)
+setup-taken c k n = by-test (ltb k 4) (λ q. (sent, rw q)) (λ q. (over, rw q))
 
 completed-taken : (u : Under) (c : Client) (r : List ℕ) → isAwaited u ≡ true → Taken (completed u c r)
 completed-taken under.Nothing c r e = from-no (cc)

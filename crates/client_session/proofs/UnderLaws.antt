@@ -17,9 +17,9 @@ use Rattle.client_session.specs.declared.PieceAnswer.{PieceAnswer}
 use Rattle.client_session.specs.declared.PieceAnswer.the-variants as answer
 use Rattle.client_session.specs.Session.{Client}
 use Rattle.client_session.specs.Start.{isNothing, startAnswer}
-use Rattle.client_session.specs.Piece.{Progress, awaited, isSeveral, isAwaited, completed, pieceAnswer}
+use Rattle.client_session.specs.Piece.{Progress, awaited, isAwaited, isReset, isSeveral, completed, pieceAnswer}
 use Rattle.client_session.specs.Finish.{isComplete}
-use Rattle.client_session.specs.Steps.{byNumber, isReset}
+use Rattle.client_session.specs.Steps.{byNumber}
 use Rattle.client_session.proofs.StepLaws.{by-refused}
 use Rattle.client_session.proofs.Under as theUnder
 use Rattle.client_session.proofs.StartAnswer as theStart

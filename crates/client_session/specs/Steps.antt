@@ -1,6 +1,6 @@
 -- What the private steps of the code do. No public contract cites these.
 use mathlib.Core.Path.{_≡_}
-use mathlib.Core.Bool.{Bool, true, false, cond}
+use mathlib.Core.Bool.{true, cond}
 use mathlib.Core.List.{List, _++_}
 use Prim.Native.Nat.{ℕ, _+_, _≤_}
 use lib.Dec.{eqb, ltb}
@@ -9,9 +9,7 @@ use Rattle.wire.specs.Answer.{Answer, result, refused}
 use Rattle.wire.specs.Call.{Said, Served}
 use Rattle.wire.specs.Put.{Put}
 use Rattle.wire.specs.Text.{high}
-use Rattle.reply_values.specs.Read.{Asked, asked}
 use Rattle.client_session.specs.declared.Under.{Under}
-use Rattle.client_session.specs.declared.Under.the-variants as under
 use Rattle.client_session.specs.declared.ClientSession.{ClientSession}
 use Rattle.client_session.specs.declared.StartAnswer.{StartAnswer}
 use Rattle.client_session.specs.declared.StartAnswer.the-variants as start
@@ -51,22 +49,13 @@ pub record Receives (d : Said Client Progress) (got : ℕ) (piece store out : Li
   pub does : Does d out (pieceServed r out₁)
   pub kept : store₁ ≡ appended (d .answer) got piece store
 
--- the answer to ATZ is awaited
-abbrev pub isReset : Under → Bool
-isReset under.Nothing = false
-isReset under.Reset = true
-isReset (under.Setup k) = false
-isReset (under.Raw e) = false
-isReset under.Query = false
-isReset under.Repeat = false
-isReset under.Complete = false
-
-abbrev pub pieceLimit : Under → ℕ
-pieceLimit u = cond (isReset u) 256 128
-
 -- the answer that a number alone gives: with none it is the result
 abbrev pub byNumber : {A : Type 0} → A → ℕ → Answer A
 byNumber a n = cond (eqb n 0) (result a) (refused n)
+
+-- the number of an awaited piece before its bytes are looked at
+abbrev pub pieceNumber : ℕ → List ℕ → ℕ → ℕ → ℕ
+pieceNumber limit piece room store = cond (ltb limit (length piece)) 3 (cond (ltb room 80) 6 (cond (ltb store 4096) 6 0))
 
 -- the number of a piece or failure: 1 out of turn
 abbrev pub turnNumber : Under → ℕ → ℕ
@@ -76,10 +65,6 @@ turnNumber u n = cond (isAwaited u) n 1
 abbrev pub replyNumber : ℕ → List ℕ → List ℕ → ℕ
 replyNumber got piece store =
     cond (eqb (length piece) 0) 7 (cond (ltb 4096 (got + length piece)) 8 (cond (high (take got (take 4096 store) ++ piece)) 9 0))
-
--- what a finish asks of the reply
-abbrev pub question : Client → Asked
-question c = asked (c .known .framing) (c .query .several) (c .query .pids) (c .known .lengths) (c .known .counts)
 
 -- a finish of the reply that the store holds
 abbrev pub finishStored : ℕ → Client → List ℕ → Said Client ℕ

@@ -18,8 +18,8 @@ use Rattle.line_list.specs.Lines.{Line, lineList}
 use Rattle.line_list.proofs.StepLaws.{left-end}
 use Rattle.reply.specs.Shape.{chipReply}
 use Rattle.reply.specs.Reply.{lineText, replyText}
-use Rattle.reply.specs.Answers.{Lent, lent, fitted, repliedWith, replied, sizeAnswer, sizeWith, replySize}
-use Rattle.reply.specs.Steps.{Room}
+use Rattle.reply.specs.Answers.{Lent, lent, fitted, repliedWith, replied}
+use Rattle.reply.specs.Steps.{sizeAnswer, sizeWith, replySize, Room}
 use Rattle.reply.specs.declared.ReplyAnswer.the-variants.{Written, Malformed, SmallBuffer}
 use Rattle.reply.specs.declared.ReplySize.{ReplySize}
 use Rattle.reply.specs.declared.ReplySize.the-variants as size

@@ -14,7 +14,7 @@ use Rattle.wire.proofs.All.{All, all-append}
 use Rattle.hex.proofs.DigitLaws.{digits-all}
 use Rattle.line_list.specs.Lines.{Line}
 use Rattle.reply.specs.Shape.{chipReply}
-use Rattle.reply.specs.Reply.{ecuId, spaceIf, furtherHex, dataHex, header, lineText, replyLines, replyText}
+use Rattle.reply.specs.Reply.{ecuId, spaceIf, furtherHex, dataHex, header, lineText, lineTexts, replyText}
 
 -- all that the chip sends for some lines of text but the prompt
 abbrev chipBody : Bool → List (List ℕ) → List ℕ
@@ -28,11 +28,11 @@ chip-prompt linefeeds (l ∷ ls) =
 
 -- a reply without its prompt
 unfoldable pub replyBody : Bool → Bool → Bool → List Line → List ℕ
-replyBody linefeeds spaces headers ls = chipBody linefeeds (replyLines spaces headers ls)
+replyBody linefeeds spaces headers ls = chipBody linefeeds (lineTexts spaces headers ls)
 
 pub reply-prompt : (linefeeds spaces headers : Bool) (ls : List Line) → replyText linefeeds spaces headers ls ≡ replyBody linefeeds spaces headers ls ++ (62 ∷ [])
 unfolding replyText replyBody
-reply-prompt linefeeds spaces headers ls = chip-prompt linefeeds (replyLines spaces headers ls)
+reply-prompt linefeeds spaces headers ls = chip-prompt linefeeds (lineTexts spaces headers ls)
 
 -- What holds of the sixteen digits, and of a space if spaces are on, holds of every byte of a line; and what holds of the endings and of `NO DATA`
 -- besides holds of every byte before the prompt.

@@ -15,8 +15,7 @@ use Rattle.line_list.specs.Lines.{Line, line, readLine, readAllLines, lineList}
 use Rattle.line_list.proofs.StepLaws.{LineHere, left-end, left-line, left-none, left-full}
 use Rattle.reply.specs.Shape.{chipReply}
 use Rattle.reply.specs.Reply.{spaceIf, furtherHex, dataHex, header, lineText, replyText}
-use Rattle.reply.specs.Answers.{sizeWith, replySize}
-use Rattle.reply.specs.Steps.{headerSize, dataSize}
+use Rattle.reply.specs.Steps.{headerSize, dataSize, sizeWith, replySize}
 use Rattle.reply.proofs.TextLaws.{no-lines}
 
 pub further-length : (spaces : Bool) (s : List ℕ) → length (furtherHex spaces s) ≡ (2 + length (spaceIf spaces)) * length s

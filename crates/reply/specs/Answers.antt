@@ -12,8 +12,6 @@ use Rattle.line_list.specs.Lines.{Line, lineList}
 use Rattle.reply.specs.Reply.{replyText}
 use Rattle.reply.specs.declared.ReplyAnswer.{ReplyAnswer}
 use Rattle.reply.specs.declared.ReplyAnswer.the-variants.{Written, Malformed, SmallBuffer}
-use Rattle.reply.specs.declared.ReplySize.{ReplySize}
-use Rattle.reply.specs.declared.ReplySize.the-variants as size
 
 -- the number of bytes written, 5 or 6
 abbrev pub replyAnswer : ReplyAnswer → Answer ℕ
@@ -40,16 +38,3 @@ repliedWith linefeeds spaces headers (got ls rest) out = fitted (replyText linef
 -- the reply of a line list
 unfoldable pub replied : Bool → Bool → Bool → List ℕ → List ℕ → Lent
 replied linefeeds spaces headers list out = repliedWith linefeeds spaces headers (lineList list) out
-
--- the number of bytes that the reply has, by which 6 is decided, or 5
-abbrev pub sizeAnswer : ReplySize → Answer ℕ
-sizeAnswer (size.Size n) = result n
-sizeAnswer size.Malformed = refused 5
-
-abbrev pub sizeWith : Bool → Bool → Bool → Read (List Line) → Answer ℕ
-sizeWith linefeeds spaces headers malformed = refused 5
-sizeWith linefeeds spaces headers (got ls rest) = result (length (replyText linefeeds spaces headers ls))
-
--- the size of the reply of a line list
-unfoldable pub replySize : Bool → Bool → Bool → List ℕ → Answer ℕ
-replySize linefeeds spaces headers list = sizeWith linefeeds spaces headers (lineList list)

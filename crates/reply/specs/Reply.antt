@@ -33,11 +33,11 @@ header spaces l = hexId (ecuId (l .ecu)) ++ (spaceIf spaces ++ (hexByte (length 
 unfoldable pub lineText : Bool → Bool → Line → List ℕ
 lineText spaces headers l = cond headers (header spaces l) [] ++ dataHex spaces (l .bytes)
 
--- "No lines: `NO DATA`"
-abbrev pub replyLines : Bool → Bool → List Line → List (List ℕ)
-replyLines spaces headers [] = ascii "NO DATA" ∷ []
-replyLines spaces headers (l ∷ ls) = map (lineText spaces headers) (l ∷ ls)
+-- the texts of a reply's lines: "No lines: `NO DATA`"
+abbrev pub lineTexts : Bool → Bool → List Line → List (List ℕ)
+lineTexts spaces headers [] = ascii "NO DATA" ∷ []
+lineTexts spaces headers (l ∷ ls) = map (lineText spaces headers) (l ∷ ls)
 
 -- the reply, by linefeeds, spaces and headers
 unfoldable pub replyText : Bool → Bool → Bool → List Line → List ℕ
-replyText linefeeds spaces headers ls = chipReply linefeeds (replyLines spaces headers ls)
+replyText linefeeds spaces headers ls = chipReply linefeeds (lineTexts spaces headers ls)

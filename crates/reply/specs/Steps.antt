@@ -4,10 +4,13 @@ use mathlib.Core.Bool.{Bool, cond}
 use mathlib.Core.List.{List, map}
 use Prim.Native.Nat.{ℕ, _+_, _-_, _*_, _≤_}
 use lib.ListN.{length}
-use Rattle.group.specs.Group.{got}
+use Rattle.wire.specs.Answer.{Answer, result, refused}
+use Rattle.group.specs.Group.{Read, got, malformed}
 use Rattle.line_list.specs.Lines.{Line, lineList}
 use Rattle.reply.specs.Shape.{chipReply}
-use Rattle.reply.specs.Reply.{spaceIf, lineText}
+use Rattle.reply.specs.Reply.{spaceIf, lineText, replyText}
+use Rattle.reply.specs.declared.ReplySize.{ReplySize}
+use Rattle.reply.specs.declared.ReplySize.the-variants as size
 
 -- how long a line's header is, if on, and the data of a line of n bytes
 abbrev pub headerSize : Bool → Bool → ℕ
@@ -15,6 +18,19 @@ headerSize spaces headers = cond headers (5 + 2 * length (spaceIf spaces)) 0
 
 abbrev pub dataSize : Bool → ℕ → ℕ
 dataSize spaces n = (2 + length (spaceIf spaces)) * n - length (spaceIf spaces)
+
+-- the number of bytes that the reply has, by which 6 is decided, or 5
+abbrev pub sizeAnswer : ReplySize → Answer ℕ
+sizeAnswer (size.Size n) = result n
+sizeAnswer size.Malformed = refused 5
+
+abbrev pub sizeWith : Bool → Bool → Bool → Read (List Line) → Answer ℕ
+sizeWith linefeeds spaces headers malformed = refused 5
+sizeWith linefeeds spaces headers (got ls rest) = result (length (replyText linefeeds spaces headers ls))
+
+-- the size of the reply of a line list
+unfoldable pub replySize : Bool → Bool → Bool → List ℕ → Answer ℕ
+replySize linefeeds spaces headers list = sizeWith linefeeds spaces headers (lineList list)
 
 -- A list is well formed, and a buffer has room for its lines and the prompt.
 pub record Room (linefeeds spaces headers : Bool) (list out : List ℕ) : Type 0 where

@@ -13,8 +13,8 @@ ghost use Rattle.client_state.specs.Settings.{lineEnding};
 ghost use Rattle.line_list.specs.Lines.{Line, line, lineList};
 ghost use Rattle.reply.specs.Shape.{chipReply};
 ghost use Rattle.reply.specs.Reply.{ecuId, spaceIf, furtherHex, lineText};
-ghost use Rattle.reply.specs.Answers.{lent, replied, sizeAnswer, replySize};
-ghost use Rattle.reply.specs.Steps.{headerSize, dataSize, Room};
+ghost use Rattle.reply.specs.Answers.{lent, replied};
+ghost use Rattle.reply.specs.Steps.{headerSize, dataSize, sizeAnswer, replySize, Room};
 
 pub enum ReplyAnswer {
     // So many bytes stand at the front of out.

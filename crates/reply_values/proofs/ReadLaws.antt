@@ -18,7 +18,7 @@ use Rattle.reply_lines.specs.Decode.{textLine, replyLines}
 use Rattle.reply_lines.proofs.DecodeLaws.{line-ecu}
 use Rattle.reply_values.specs.Values.{valuesOf, answerOrder}
 use Rattle.reply_values.specs.Learn.{lengthsAfter, learnCounts, givenPids}
-use Rattle.reply_values.specs.Read.{Asked, readValues, readLines, readReply}
+use Rattle.reply_values.specs.Read.{Asked, Reading, reading, readInto, readReply}
 use Rattle.reply_values.specs.Steps.{valuesIn}
 use Rattle.reply_values.proofs.InLaws.{values-in}
 use Rattle.reply_values.proofs.SizeLaws.{reply-size}
@@ -26,7 +26,11 @@ use Rattle.reply_values.proofs.WalkLaws.{KnownEcus, values-fit}
 
 -- The order of an answer: that of the reply
 
--- its size is that of the values in any order
+-- its number and its size are those of the values in any order
+order-count : (vs : List Value) → length (answerOrder vs) ≡ length vs
+unfolding answerOrder
+order-count vs = refl
+
 order-size : (vs : List Value) → length (valuesBytes (answerOrder vs)) ≡ length (valuesBytes vs)
 unfolding answerOrder
 order-size vs = refl
@@ -81,7 +85,11 @@ module _ (framing : Bool) (text lengths : List ℕ) (short : length text ≤ 409
 -- a reply is read as its first 4,096 bytes are
 pub read-cut : (q : Asked) (reply out : List ℕ) {end : ℕ} → end ≡ min (length reply) 4096 → readReply q (take end reply) out ≡ readReply q reply out
 unfolding readReply
-read-cut q reply out {end} h = ap (λ t. readLines q (replyLines (q .framing) t) out) (take-all 4096 (take end reply) (cut-short reply h) ∙ cut-same reply h)
+read-cut q reply out {end} h = ap (λ t. readInto q (reading q t) out) (take-all 4096 (take end reply) (cut-short reply h) ∙ cut-same reply h)
+
+-- what values teach, with the lengths that they were found by
+abbrev readingOf : Asked → List ℕ → List Value → Reading
+readingOf q lengths vs = record { values = answerOrder vs; lengths = lengths; counts = learnCounts (q .framing) 0 (q .counts) vs; given = givenPids (q .pids) vs }
 
 -- the answer to a query, by what the store holds
 module _ (q : Asked) (text : List ℕ) (short : length text ≤ 4096) {after : List ℕ}
@@ -96,12 +104,12 @@ module _ (q : Asked) (text : List ℕ) (short : length text ≤ 4096) {after : L
   found-size : size ≡ length (valuesBytes (answerOrder found))
   found-size = stored-size (q .framing) text after short room p ∙ ap (λ vs. length (valuesBytes vs)) (sym same) ∙ sym (order-size found)
 
-  read-found : (out : List ℕ) → readReply q text out ≡ readValues q after found out
+  read-found : (out : List ℕ) → readReply q text out ≡ readInto q (readingOf q after found) out
   unfolding readReply
   read-found out =
-      ap (λ t. readLines q (replyLines (q .framing) t) out) (take-all 4096 text short)
-      ∙ ap (λ ls. readValues q ls (valuesOf ls (replyLines (q .framing) text)) out) (sym learned)
-      ∙ ap (λ vs. readValues q after vs out) (sym same)
+      ap (λ t. readInto q (reading q t) out) (take-all 4096 text short)
+      ∙ ap (λ ls. readInto q (readingOf q ls (valuesOf ls (replyLines (q .framing) text))) out) (sym learned)
+      ∙ ap (λ vs. readInto q (readingOf q after vs) out) (sym same)
 
   pub read-small : {out : List ℕ} → length out < size → record { answer = refused 6; lengths = q .lengths; counts = q .counts; out = out } ≡ readReply q text out
   read-small {out} h = sym (read-found out ∙ rw (lt-ltb (length out) (length (valuesBytes (answerOrder found))) (omega (arith, found-size))))
@@ -110,8 +118,9 @@ module _ (q : Asked) (text : List ℕ) (short : length text ≤ 4096) {after : L
       counts ≡ learnCounts (q .framing) 0 (q .counts) found → Put out 0 (valuesBytes (answerOrder found)) written o₁ →
       record { answer = result (count ∷ written ∷ given ∷ []); lengths = after; counts = counts; out = o₁ } ≡ readReply q text out
   read-whole {out} {o₁} {counts} {count} {written} {given} h c g l w =
-      let given = valuesBytes (answerOrder found) in
-      let all : written ≡ length given = let e = put-whole w (omega (arith, found-size)) in omega arith in
-      let fits = le-ltb (length out) (length given) (omega (arith, found-size)) in
-      (λ i. record { answer = result (c i ∷ all i ∷ g i ∷ []); lengths = after; counts = l i; out = w .bytes i })
+      let text = valuesBytes (answerOrder found) in
+      let all : written ≡ length text = let e = put-whole w (omega (arith, found-size)) in omega arith in
+      let fits = le-ltb (length out) (length text) (omega (arith, found-size)) in
+      let many : count ≡ length (answerOrder found) = c ∙ sym (order-count found) in
+      (λ i. record { answer = result (many i ∷ all i ∷ g i ∷ []); lengths = after; counts = l i; out = w .bytes i })
       ∙ sym (read-found out ∙ rw fits)

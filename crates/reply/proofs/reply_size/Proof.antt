@@ -5,7 +5,7 @@ use native.Mathlib.Omega.{arith}
 use lib.ListN.{drop}
 use borrow.Author.Needs.{needs}
 use Rattle.reply.proofs.SizeLaws.{ending-short, sized, size-none, size-start, size-line, size-short, size-end, size-bad, size-full}
-use Rattle.reply.specs.Answers.{replySize}
+use Rattle.reply.specs.Steps.{replySize}
 use Rattle.line_list.proofs.StepLaws.{step-line, step-end, step-none}
 use Rattle.line_list.specs.Lines.{readAllLines}
 use Rattle.reply.proofs.reply_size.Statement.{statement}
