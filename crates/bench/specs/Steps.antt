@@ -19,7 +19,7 @@ use Rattle.script.specs.Script.{Query, script}
 use Rattle.bench.specs.declared.Bench as code
 use Rattle.bench.specs.declared.PartStep.{PartStep}
 use Rattle.bench.specs.declared.Turn as code-turn
-use Rattle.bench.specs.Run.{Bench, Turn, Part, Run, Recorded, sendRoom, replyRoom, valuesRoom, reset, standing}
+use Rattle.bench.specs.Run.{Bench, Turn, Part, Run, Recorded, sendRoom, replyRoom, valuesRoom, reset, standing, joined}
 
 -- both sessions as the code holds them
 abbrev pub benchOf : code.Bench → List ℕ → List ℕ → Bench
@@ -105,4 +105,4 @@ added room a = standing room a [] (record { answer = result tt; parts = []; hand
 
 -- the parts of a run that stand from position at on
 abbrev pub lentFrom : ℕ → Run → List ℕ → Recorded
-lentFrom at d out = record { answer = d .answer; written = at + length (d .parts); out = sets out at (d .parts) }
+lentFrom at d out = record { answer = d .answer; written = at + length (joined (d .parts)); out = sets out at (joined (d .parts)) }
