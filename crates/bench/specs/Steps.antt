@@ -6,20 +6,23 @@ use Prim.Native.Nat.{ℕ, zero, suc, _+_, _≤_}
 use lib.ListN.{length, take, drop}
 use lib.Seq.{sets}
 use Rattle.wire.specs.Answer.{Answer, result, refused}
+use Rattle.wire.specs.Call.{Said}
 use Rattle.group.specs.Group.{groupBytes}
 use Rattle.server_session.specs.declared.ServerSession.{ServerSession}
 use Rattle.server_session.specs.Session.{session, freshSession}
-use Rattle.client_session.specs.Session.{client, freshClient}
+use Rattle.client_session.specs.Session.{Client, client, freshClient}
 use Rattle.client_session.specs.Start.{initSays}
 use Rattle.client_session.specs.declared.PieceAnswer.{PieceAnswer}
-use Rattle.client_session.specs.Piece.{Progress, awaited, sent, over, complete, pieceAnswer}
+use Rattle.client_session.specs.declared.FinishAnswer.{FinishAnswer}
+use Rattle.client_session.specs.Piece.{Progress, awaited, sent, over, complete, pieceAnswer, Received, pieceReceived}
+use Rattle.client_session.specs.Finish.{finishAnswer}
 use Rattle.exchange.specs.Exchange.{exchanged}
 use Rattle.exchange.specs.Deliver.{Delivered}
 use Rattle.script.specs.Script.{Query, script}
 use Rattle.bench.specs.declared.Bench as code
 use Rattle.bench.specs.declared.PartStep.{PartStep}
 use Rattle.bench.specs.declared.Turn as code-turn
-use Rattle.bench.specs.Run.{Bench, Turn, Part, Run, Recorded, sendRoom, replyRoom, valuesRoom, reset, standing, joined}
+use Rattle.bench.specs.Run.{Bench, Turn, Part, Run, Recorded, sendRoom, replyRoom, valuesRoom, reset, finished, standing, joined}
 
 -- both sessions as the code holds them
 abbrev pub benchOf : code.Bench → List ℕ → List ℕ → Bench
@@ -50,6 +53,22 @@ pub record Back (d : Delivered) (server : ServerSession) (r : code-turn.Turn) (o
   pub inside : r .written ≤ length out
   pub size : length out ≡ sendRoom
 
+-- The same for a reply that has been delivered as one piece; no piece length is used up.
+pub record OnePiece (d : Received) (server : ServerSession) (r : code-turn.Turn) (out store : List ℕ) : Type 0 where
+  pub says : pieceReceived (record { answer = r .answer; written = r .written; session = r .bench .client }) out store ≡ d
+  pub waits : r .bench .server ≡ server
+  pub unused : r .bench .used ≡ 0
+
+-- A query has been started, and its command is the next to be sent.
+pub record Begins (s : Said Client (Unit {0})) (b : code.Bench) (r : code-turn.Turn) (out : List ℕ) : Type 0 where
+  pub answer : pieceAnswer (r .answer) ≡ result sent
+  pub text : take (r .written) out ≡ s .text
+  pub next : client (r .bench .client) ≡ s .next
+  pub waits : r .bench .server ≡ b .server
+  pub used : r .bench .used ≡ b .used
+  pub inside : r .written ≤ length out
+  pub size : length out ≡ sendRoom
+
 -- A turn does what is said.
 pub record Does (t : Turn) (r : code-turn.Turn) (out reply store lengths : List ℕ) : Type 0 where
   pub answer : pieceAnswer (r .answer) ≡ t .answer
@@ -75,6 +94,21 @@ numberOf (refused n) = n
 
 abbrev pub pieceNumber : PieceAnswer → ℕ
 pieceNumber a = numberOf (pieceAnswer a)
+
+-- the same in what a finish says, and the number of values
+abbrev pub finishNumber : FinishAnswer → ℕ
+finishNumber a = numberOf (finishAnswer a)
+
+abbrev pub countIn : Answer ℕ → ℕ
+countIn (result n) = n
+countIn (refused n) = 0
+
+abbrev pub finishCount : FinishAnswer → ℕ
+finishCount a = countIn (finishAnswer a)
+
+-- the query of a client whose reply is complete is finished
+abbrev pub closed : Bench → Part
+closed b = finished (record { answer = result complete; text = []; bench = b; handed = [] })
 
 -- a query's part as the code holds it: the count and the values apart
 abbrev pub partAnswer : ℕ → ℕ → List ℕ → Answer (List ℕ)

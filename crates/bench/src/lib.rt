@@ -97,7 +97,7 @@ fn add_part(part: PartStep, values: &[u8], buffer: &mut [u8], at: usize) -> Benc
 fn ask_all(
     script: &[u8],
     lengths: &[u8],
-    from: Bench,
+    mut bench: Bench,
     buffer: &mut [u8],
     out: &mut [u8],
     reply: &mut [u8],
@@ -105,9 +105,8 @@ fn ask_all(
     values: &mut [u8],
 ) -> BenchRun
     requires { ⌜ IsScript (now script) × Room (now out) (now reply) × (length (now values) ≡ valuesRoom) ⌝ }
-    ensures { λ r. ⌜ recorded r (now (buffer .exit)) ≡ lent (asked (length (now (buffer .entry))) (benchOf from (now (store .entry)) (now (lengths .entry))) (queriesIn (now (script .entry)))) (now (buffer .entry)) ⌝ }
+    ensures { λ r. ⌜ recorded r (now (buffer .exit)) ≡ lent (asked (length (now (buffer .entry))) (benchOf bench (now (store .entry)) (now (lengths .entry))) (queriesIn (now (script .entry)))) (now (buffer .entry)) ⌝ }
 {
-    let mut bench = from;
     let mut cursor = ScriptCursor::new();
     let mut at: usize = 0;
     while cursor.at < script.len() {

@@ -14,12 +14,12 @@ use Rattle.bench.proofs.ask_all.Statement.{statement}
 use Rattle.bench.proofs.ask_all.Tie as tie
 
 abbrev Inv-loop : tie.InvT-loop
-Inv-loop script lengths buffer₀ out₀ reply₀ store₀ values₀ bench₀ cursor₀ at₀ buffer out reply store values bench cursor at =
+Inv-loop script lengths bench₀ buffer₀ out₀ reply₀ store₀ values₀ cursor₀ at₀ bench buffer out reply store values cursor at =
     Left (lent (asked (length buffer₀) (benchOf bench₀ store₀ lengths) (queriesIn script)) buffer₀) script lengths bench (cursor .at) at buffer store × Room out reply ×
     (length values ≡ valuesRoom) × (length buffer ≡ length buffer₀) × (length store ≡ length store₀)
 
 abbrev μ-loop : tie.MeasureT-loop
-μ-loop script lengths buffer₀ out₀ reply₀ store₀ values₀ bench₀ cursor₀ at₀ buffer out reply store values bench cursor at =
+μ-loop script lengths bench₀ buffer₀ out₀ reply₀ store₀ values₀ cursor₀ at₀ bench buffer out reply store values cursor at =
     length script - cursor .at
 
 bytes : (k : tie.After-shared-slice-known Inv-loop μ-loop) → Bytes (k .before .args .script .now)
