@@ -4,15 +4,17 @@ use mathlib.Core.List.{List, [], _∷_}
 use Prim.Native.Nat.{ℕ, zero, suc, _≤_}
 use native.Mathlib.Omega.{arith}
 use lib.Dec.{ltb}
-use lib.ListN.{length, take, drop, getD}
-use borrow.Author.Tests.{ltb-false}
+use lib.ListN.{length, take, drop, getD, length-take}
+use borrow.Author.Tests.{ltb-false, le-ltb}
 use Rattle.wire.specs.Answer.{Answer, result, refused}
 use Rattle.wire.specs.Call.{Said, Served, lent}
 use Rattle.wire.specs.Text.{high}
 use Rattle.wire.proofs.Cases.{by-test}
+use Rattle.value.specs.Values.{Value, valuesBytes}
 use Rattle.reply_lines.specs.Decode.{replyLines}
-use Rattle.reply_values.specs.Values.{valuesOf}
+use Rattle.reply_values.specs.Values.{valuesOf, answerOrder}
 use Rattle.reply_values.specs.Learn.{lengthsAfter}
+use Rattle.reply_values.proofs.SizeLaws.{reply-size}
 use Rattle.server_session.specs.Session.{session}
 use Rattle.client_session.specs.declared.StartStep.{StartStep}
 use Rattle.client_session.specs.declared.PieceAnswer.{PieceAnswer}
@@ -28,9 +30,9 @@ use Rattle.client_session.proofs.StartLaws.{pid-fits, pids-fits}
 use Rattle.bench.specs.declared.Bench as code
 use Rattle.bench.specs.declared.Turn as code-turn
 use Rattle.bench.specs.declared.PartStep.{PartStep}
-use Rattle.bench.specs.Run.{Bench, Turn, onward, sendRoom, valuesRoom, startSays, asking, partOf, finishing, finished}
+use Rattle.bench.specs.Run.{Bench, Turn, onward, sendRoom, replyRoom, valuesRoom, startSays, asking, partOf, finishing, finished}
 use Rattle.bench.proofs.TurnLaws.{lent-length, lent-text, lent-inside}
-use Rattle.bench.specs.Steps.{benchOf, turnOf, Begins, Does, numberOf, pieceNumber, finishNumber, finishCount, closed, partAnswer, PartDoes}
+use Rattle.bench.specs.Steps.{benchOf, turnOf, Begins, Does, Comes, numberOf, pieceNumber, finishNumber, finishCount, closed, partAnswer, PartDoes}
 
 -- ---- the start
 
@@ -80,6 +82,33 @@ finish-fits room c store =
     (λ large. by-test (high (replyIn c store)) (λ e. rw (turn, large, e) (omega arith)) (λ e. rw (turn, large, e) (reply-fits room c (replyIn c store)))))
     (λ early. rw early (omega arith))
 
+-- a reply has at most 4,096 bytes, so more room than its values can take makes no difference
+ordered-size : (vs : List Value) → length (valuesBytes (answerOrder vs)) ≡ length (valuesBytes vs)
+unfolding answerOrder
+ordered-size vs = refl
+
+reply-room : (c : Client) (reply : List ℕ) → length reply ≤ 4096 → finishReply replyRoom c reply ≡ finishReply valuesRoom c reply
+reply-room c reply short =
+    let ls = replyLines (c .known .framing) reply in
+    let lengths = lengthsAfter (c .query .several) (c .query .pids) (c .known .lengths) ls in
+    let vs = valuesOf lengths ls in
+    let few = reply-size lengths (c .known .framing) reply short in
+    let text = valuesBytes (answerOrder vs) in
+    rw (le-ltb replyRoom (length text) (omega (arith, ordered-size vs)), le-ltb valuesRoom (length text) (omega (arith, ordered-size vs)))
+
+finish-room : (c : Client) (store : List ℕ) → finishSays replyRoom c store ≡ finishSays valuesRoom c store
+unfolding finishSays
+finish-room c store =
+    by-test (isComplete (c .under))
+    (λ turn.
+    by-test (ltb (length store) 4096)
+    (λ small. rw (turn, small))
+    (λ large.
+    by-test (high (replyIn c store))
+    (λ e. rw (turn, large, e))
+    (λ e. rw (turn, large, e) (reply-room c (replyIn c store) (omega (arith, length-take (c .got) (take 4096 store), length-take 4096 store))))))
+    (λ early. rw early)
+
 -- what a piece says, by its number
 pub number-refused : {A : Type 0} (a : Answer A) (n : ℕ) → n ≡ numberOf a → (n ≡ 0 → ⊥) → a ≡ refused n
 number-refused (result x) n e some = absurd (some e)
@@ -102,7 +131,7 @@ part-refused zero count text some = absurd (some refl)
 part-refused (suc n) count text some = refl
 
 -- the reply got a number
-pub reply-refused : (asked : code-turn.Turn) (n : ℕ) (values store lengths : List ℕ) → length values ≡ valuesRoom → n ≡ pieceNumber (asked .answer) → (n ≡ 0 → ⊥) →
+pub reply-refused : (asked : code-turn.Turn) (n : ℕ) (values store lengths : List ℕ) → length values ≡ replyRoom → n ≡ pieceNumber (asked .answer) → (n ≡ 0 → ⊥) →
     PartDoes (finished (turnOf asked [] store lengths)) (record { number = n; count = 0; written = 0; bench = asked .bench }) values store lengths
 reply-refused asked n values store lengths size number some =
     rw (number-refused (pieceAnswer (asked .answer)) n number some)
@@ -121,13 +150,13 @@ part-said finish.SmallBuffer f e = ap (partOf f) e
 part-said finish.NotAscii f e = ap (partOf f) e
 
 -- the query is finished by the step s
-module _ (b : code.Bench) (store values : List ℕ) (size : length values ≡ valuesRoom) (s : FinishStep) (left : List ℕ)
+module _ (b : code.Bench) (store values : List ℕ) (size : length values ≡ replyRoom) (s : FinishStep) (left : List ℕ)
     (e : finishServed s left ≡ lent (finishSays (length values) (client (b .client)) store) values) where
   abbrev says : Said Client ℕ
   says = finishSays valuesRoom (client (b .client)) store
 
   does : finishServed s left ≡ lent says values
-  does = e ∙ ap (λ room. lent (finishSays room (client (b .client)) store) values) size
+  does = e ∙ ap (λ room. lent (finishSays room (client (b .client)) store) values) size ∙ ap (λ (f : Said Client ℕ). lent f values) (finish-room (client (b .client)) store)
 
   few : length (says .text) ≤ length values
   few = omega (arith, size, finish-fits valuesRoom (client (b .client)) store)
@@ -174,7 +203,7 @@ module _ (s : Said Client (Unit {0})) (begun : StartStep) (out out₁ : List ℕ
 
 -- the command of the query, and then at most one more
 pub ask-does : {s : Said Client (Unit {0})} {b : code.Bench} {begun r : code-turn.Turn} {out : List ℕ} (list lengths store o p q : List ℕ) → Begins s b begun out →
-    Does (onward 2 (turnOf begun out store lengths) list) r o p q lengths → Does (asking (benchOf b store lengths) s list) r o p q lengths
+    Does (onward 2 (turnOf begun out store lengths) list) r o p q lengths → Comes (asking (benchOf b store lengths) s list) r p q lengths
 ask-does {s} {b} {begun} {r} {out} list lengths store o p q w d =
     let first : Turn = record {
       answer = result sent;
@@ -189,7 +218,7 @@ ask-does {s} {b} {begun} {r} {out} list lengths store o p q w d =
       handed = [];
     } in
     let two : Does (onward 2 first list) r o p q lengths = subst (λ (t : Turn). Does (onward 2 t list) r o p q lengths) same d in
-    record { answer = two .answer; text = two .text; bench = two .bench; inside = two .inside; room = two .room }
+    record { answer = two .answer; bench = two .bench; room = two .room .1 }
 
 -- and finished; a finish goes by the answer and the bench alone
 finishing-held : (a : Answer Progress) (t u : Turn) → t .bench ≡ u .bench → (finishing t a .answer ≡ finishing u a .answer) × (finishing t a .bench ≡ finishing u a .bench)
@@ -199,9 +228,9 @@ finishing-held (result p) t u e = (
   ap (λ (b : Bench). record { client = finishSays valuesRoom (b .client) (b .store) .next; store = b .store; server = b .server; lengths = b .lengths }) e,
 )
 
-pub part-does : {t : Turn} {asked : code-turn.Turn} {r : PartStep} {out reply values store lengths : List ℕ} → Does t asked out reply store lengths →
+pub part-does : {t : Turn} {asked : code-turn.Turn} {r : PartStep} {reply values store lengths : List ℕ} → Comes t asked reply store lengths →
     PartDoes (finished (turnOf asked [] store lengths)) r values store lengths → PartDoes (finished t) r values store lengths
-part-does {t} {asked} {r} {out} {reply} {values} {store} {lengths} p d =
+part-does {t} {asked} {r} {reply} {values} {store} {lengths} p d =
     let u = turnOf asked [] store lengths in
     let (answer, bench) = finishing-held (u .answer) t u (sym (p .bench)) in
     let a : finished t .answer ≡ finished u .answer = ap (λ a. finishing t a .answer) (sym (p .answer)) ∙ answer in

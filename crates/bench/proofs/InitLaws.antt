@@ -1,5 +1,5 @@
 -- The initialisation of fresh sessions: ATZ, whose echo and answer arrive as one piece, and then the other commands.
-use mathlib.Core.Path.{_≡_, refl, ap, _∙_}
+use mathlib.Core.Path.{_≡_, refl, sym, ap, _∙_}
 use mathlib.Core.Bool.{Bool, true}
 use mathlib.Core.List.{List, []}
 use Prim.Native.Nat.{ℕ, _≤_}
@@ -21,10 +21,10 @@ use Rattle.exchange.specs.Exchange.{Exchanged, exchanged, exchangeServed}
 use Rattle.exchange.specs.Exchange as exchange
 use Rattle.bench.specs.declared.Turn as code-turn
 use Rattle.bench.specs.Run.{sendRoom, replyRoom, freshStore, onward, initialised}
-use Rattle.bench.specs.Steps.{turnOf, resetFresh, OnePiece, Does}
+use Rattle.bench.specs.Steps.{turnOf, resetFresh, OnePiece, Does, Comes}
 use Rattle.bench.proofs.TurnLaws.{lent-length, lent-text, lent-inside, reply-text, reply-next, reply-length}
 use Rattle.bench.proofs.AskLaws.{start-text, start-size, start-inside}
-use Rattle.bench.proofs.OnwardLaws.{held-does, held-then, does-held, onward-held}
+use Rattle.bench.proofs.OnwardLaws.{held-then, does-held, onward-held}
 
 -- ATZ goes out
 pub reset-sent : (repeat : Bool) (out out₁ : List ℕ) (fresh : ClientSession) (i : StartStep) → length out ≡ sendRoom → client fresh ≡ freshClient true repeat →
@@ -98,7 +98,8 @@ module _ (repeat : Bool) (out out₁ : List ℕ) (i : StartStep) (size : length 
 -- and then the other commands
 pub initialised-does : (repeat : Bool) (first r : code-turn.Turn) (out reply store lengths out₁ reply₁ store₁ : List ℕ) →
     Does (resetFresh repeat lengths) first out reply store lengths → Does (onward 5 (turnOf first out store lengths) []) r out₁ reply₁ store₁ lengths →
-    Does (initialised repeat lengths) r out₁ reply₁ store₁ lengths
+    Comes (initialised repeat lengths) r reply₁ store₁ lengths
 unfolding initialised
 initialised-does repeat first r out reply store lengths out₁ reply₁ store₁ a b =
-    held-does (held-then (onward-held 5 [] (does-held a)) (does-held b)) (b .inside) (b .room)
+    let h = held-then (onward-held 5 [] (does-held a)) (does-held b) in
+    record { answer = sym (h .answer); bench = sym (h .bench); room = b .room .1 }

@@ -22,7 +22,7 @@ use Rattle.script.specs.Script.{Query, script}
 use Rattle.bench.specs.declared.Bench as code
 use Rattle.bench.specs.declared.PartStep.{PartStep}
 use Rattle.bench.specs.declared.Turn as code-turn
-use Rattle.bench.specs.Run.{Bench, Turn, Part, Run, Recorded, sendRoom, replyRoom, valuesRoom, reset, finished, standing, joined}
+use Rattle.bench.specs.Run.{Bench, Turn, Part, Run, Recorded, sendRoom, replyRoom, reset, finished, standing, joined}
 
 -- both sessions as the code holds them
 abbrev pub benchOf : code.Bench → List ℕ → List ℕ → Bench
@@ -77,6 +77,12 @@ pub record Does (t : Turn) (r : code-turn.Turn) (out reply store lengths : List 
   pub inside : r .written ≤ length out
   pub room : Room out reply
 
+-- The same where nothing more is to be sent.
+pub record Comes (t : Turn) (r : code-turn.Turn) (reply store lengths : List ℕ) : Type 0 where
+  pub answer : pieceAnswer (r .answer) ≡ t .answer
+  pub bench : benchOf (r .bench) store lengths ≡ t .bench
+  pub room : length reply ≡ replyRoom
+
 abbrev pub isSentAnswer : Answer Progress → Bool
 isSentAnswer (refused n) = false
 isSentAnswer (result awaited) = false
@@ -120,7 +126,7 @@ pub record PartDoes (p : Part) (r : PartStep) (values store lengths : List ℕ) 
   pub answer : partAnswer (r .number) (r .count) (take (r .written) values) ≡ p .answer
   pub bench : benchOf (r .bench) store lengths ≡ p .bench
   pub inside : r .written ≤ length values
-  pub room : length values ≡ valuesRoom
+  pub room : length values ≡ replyRoom
 
 -- the script is well formed, and its queries
 abbrev pub IsScript : List ℕ → Type 0

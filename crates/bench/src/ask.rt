@@ -16,8 +16,8 @@ ghost use Rattle.wire.specs.Call.{lent};
 ghost use Rattle.query.specs.Query.{countOf};
 ghost use Rattle.client_session.specs.Session.{client};
 ghost use Rattle.client_session.specs.Start.{startServed};
-ghost use Rattle.bench.specs.Run.{sendRoom, valuesRoom, startSays, asking, finished};
-ghost use Rattle.bench.specs.Steps.{benchOf, turnOf, Room, Begins, Does, pieceNumber, finishNumber, finishCount, closed, PartDoes};
+ghost use Rattle.bench.specs.Run.{sendRoom, replyRoom, startSays, asking, finished};
+ghost use Rattle.bench.specs.Steps.{benchOf, turnOf, Begins, Comes, pieceNumber, finishNumber, finishCount, closed, PartDoes};
 
 // The number of ECUs that a query waits for, from its count+1 in a script.
 fn ecu_count(count: u16) -> EcuCount
@@ -69,15 +69,15 @@ fn ask(
     count: u16,
     list: &[u8],
     lengths: &[u8],
-    out: &mut [u8],
     reply: &mut [u8],
     store: &mut [u8],
 ) -> Turn
-    requires { ⌜ (count ≤ 256) × Room (now out) (now reply) ⌝ }
-    ensures { λ r. ⌜ Does (asking (benchOf bench (now (store .entry)) (now (lengths .entry))) (startSays (client (bench .client)) (now (pids .entry)) count) (now (list .entry))) r (now (out .exit)) (now (reply .exit)) (now (store .exit)) (now (lengths .entry)) ⌝ }
+    requires { ⌜ (count ≤ 256) × (length (now reply) ≡ replyRoom) ⌝ }
+    ensures { λ r. ⌜ Comes (asking (benchOf bench (now (store .entry)) (now (lengths .entry))) (startSays (client (bench .client)) (now (pids .entry)) count) (now (list .entry))) r (now (reply .exit)) (now (store .exit)) (now (lengths .entry)) ⌝ }
 {
-    let begun = begin(bench, pids, count, out);
-    turns::onward(begun, 2, list, lengths, out, reply, store)
+    let mut out = [0u8; 80];
+    let begun = begin(bench, pids, count, &mut out);
+    turns::onward(begun, 2, list, lengths, &mut out, reply, store)
 }
 
 // The number of document 01 in what a piece says, 0 for none.
@@ -124,7 +124,7 @@ fn finish_count(answer: FinishAnswer) -> usize
 
 // Finishes a query whose reply is complete: its values stand in the lent buffer.
 fn close(bench: Bench, store: &[u8], values: &mut [u8]) -> PartStep
-    requires { ⌜ length (now values) ≡ valuesRoom ⌝ }
+    requires { ⌜ length (now values) ≡ replyRoom ⌝ }
     ensures { λ r. ⌜ ((lengths : List ℕ) → PartDoes (closed (benchOf bench (now (store .entry)) lengths)) r (now (values .exit)) (now (store .entry)) lengths) ⌝ }
 {
     let session = bench.client;
@@ -146,7 +146,7 @@ fn close(bench: Bench, store: &[u8], values: &mut [u8]) -> PartStep
 
 // Finishes a query, unless its reply got a number.
 fn finish(asked: Turn, store: &[u8], values: &mut [u8]) -> PartStep
-    requires { ⌜ length (now values) ≡ valuesRoom ⌝ }
+    requires { ⌜ length (now values) ≡ replyRoom ⌝ }
     ensures { λ r. ⌜ ((lengths : List ℕ) → PartDoes (finished (turnOf asked [] (now (store .entry)) lengths)) r (now (values .exit)) (now (store .entry)) lengths) ⌝ }
 {
     let answer = asked.answer;
@@ -163,21 +163,19 @@ fn finish(asked: Turn, store: &[u8], values: &mut [u8]) -> PartStep
     close(bench, store, values)
 }
 
-// Asks a query and finishes it.
+// Asks a query and finishes it. What the server sends stands in work, and then the query's values.
 pub(crate) fn part(
     bench: Bench,
     pids: &[u8],
     count: u16,
     list: &[u8],
     lengths: &[u8],
-    out: &mut [u8],
-    reply: &mut [u8],
+    work: &mut [u8],
     store: &mut [u8],
-    values: &mut [u8],
 ) -> PartStep
-    requires { ⌜ (count ≤ 256) × Room (now out) (now reply) × (length (now values) ≡ valuesRoom) ⌝ }
-    ensures { λ r. ⌜ PartDoes (finished (asking (benchOf bench (now (store .entry)) (now (lengths .entry))) (startSays (client (bench .client)) (now (pids .entry)) count) (now (list .entry)))) r (now (values .exit)) (now (store .exit)) (now (lengths .entry)) × Room (now (out .exit)) (now (reply .exit)) ⌝ }
+    requires { ⌜ (count ≤ 256) × (length (now work) ≡ replyRoom) ⌝ }
+    ensures { λ r. ⌜ PartDoes (finished (asking (benchOf bench (now (store .entry)) (now (lengths .entry))) (startSays (client (bench .client)) (now (pids .entry)) count) (now (list .entry)))) r (now (work .exit)) (now (store .exit)) (now (lengths .entry)) ⌝ }
 {
-    let asked = ask(bench, pids, count, list, lengths, out, reply, store);
-    finish(asked, store, values)
+    let asked = ask(bench, pids, count, list, lengths, work, store);
+    finish(asked, store, work)
 }

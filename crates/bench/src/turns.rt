@@ -15,8 +15,8 @@ ghost use Rattle.client_session.specs.Session.{client, freshClient};
 ghost use Rattle.client_session.specs.Start.{initSays, startServed};
 ghost use Rattle.client_session.specs.Piece.{pieceLent};
 ghost use Rattle.exchange.specs.Deliver.{delivered};
-ghost use Rattle.bench.specs.Run.{sendRoom, freshStore, turn, onward, initialised};
-ghost use Rattle.bench.specs.Steps.{isSent, benchOf, turnOf, resetFresh, Room, Back, OnePiece, Does};
+ghost use Rattle.bench.specs.Run.{sendRoom, replyRoom, freshStore, turn, onward, initialised};
+ghost use Rattle.bench.specs.Steps.{isSent, benchOf, turnOf, resetFresh, Room, Back, OnePiece, Does, Comes};
 
 // What the server sent goes back to the client in pieces.
 fn back(
@@ -158,16 +158,11 @@ fn reset(repeat: bool, out: &mut [u8], reply: &mut [u8], store: &mut [u8]) -> Tu
 }
 
 // A fresh client and a fresh server after the initialisation.
-pub(crate) fn initialise(
-    repeat: bool,
-    lengths: &[u8],
-    out: &mut [u8],
-    reply: &mut [u8],
-    store: &mut [u8],
-) -> Turn
-    requires { ⌜ Room (now out) (now reply) × (now store ≡ freshStore) ⌝ }
-    ensures { λ r. ⌜ Does (initialised repeat (now (lengths .entry))) r (now (out .exit)) (now (reply .exit)) (now (store .exit)) (now (lengths .entry)) ⌝ }
+pub(crate) fn initialise(repeat: bool, lengths: &[u8], reply: &mut [u8], store: &mut [u8]) -> Turn
+    requires { ⌜ (length (now reply) ≡ replyRoom) × (now store ≡ freshStore) ⌝ }
+    ensures { λ r. ⌜ Comes (initialised repeat (now (lengths .entry))) r (now (reply .exit)) (now (store .exit)) (now (lengths .entry)) ⌝ }
 {
-    let first = reset(repeat, out, reply, store);
-    onward(first, 5, b"", lengths, out, reply, store)
+    let mut out = [0u8; 80];
+    let first = reset(repeat, &mut out, reply, store);
+    onward(first, 5, b"", lengths, &mut out, reply, store)
 }
