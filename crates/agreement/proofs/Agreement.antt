@@ -16,7 +16,7 @@ use Rattle.reply_values.specs.Values.{answerOrder}
 use Rattle.script.specs.Script.{Query}
 use Rattle.script.specs.Written.{AllInLimits}
 use Rattle.script.proofs.ScriptLaws.{script-limits}
-use Rattle.bench.specs.Run.{Run, Recorded, runAnswer}
+use Rattle.bench.specs.Run.{Run, Recorded, runAnswer, joined}
 use Rattle.agreement.specs.Vehicle.{given}
 use Rattle.agreement.specs.Demand.{givens, commands, fitting, partsIn, SameFirst, Drive, hireRecord, partsStanding, comesTo, EveryFits, Holds, Agreement}
 use Rattle.agreement.proofs.Finished.{answer-reordered}
@@ -113,11 +113,11 @@ module _ (d : Drive) where
   -- what stands in the buffer are the parts of the queries that fit
   record-is : hireRecord d ≡ recordBytes parts
   record-is =
-      let w : d .run .written ≡ length (comesTo d .parts) = ap (λ (x : Recorded). x .written) (d .ran) in
-      let b : d .buffer ≡ sets (d .lentBuffer) 0 (comesTo d .parts) = ap (λ (x : Recorded). x .out) (d .ran) in
-      let inside : length (comesTo d .parts) ≤ room = rw (ran d) (told-inside room (d .queries)) in
-      let put : Put (d .lentBuffer) 0 (comesTo d .parts) (d .run .written) (d .buffer) = record { next = omega arith; bytes = b } in
-      put-front put ∙ take-all room (comesTo d .parts) inside ∙ ap (λ (r : Run). r .parts) (ran d) ∙ told-parts room (d .queries)
+      let w : d .run .written ≡ length (joined (comesTo d .parts)) = ap (λ (x : Recorded). x .written) (d .ran) in
+      let b : d .buffer ≡ sets (d .lentBuffer) 0 (joined (comesTo d .parts)) = ap (λ (x : Recorded). x .out) (d .ran) in
+      let inside : length (joined (comesTo d .parts)) ≤ room = rw (ran d) (told-inside room (d .queries)) in
+      let put : Put (d .lentBuffer) 0 (joined (comesTo d .parts)) (d .run .written) (d .buffer) = record { next = omega arith; bytes = b } in
+      put-front put ∙ take-all room (joined (comesTo d .parts)) inside ∙ ap (λ (r : Run). joined (r .parts)) (ran d) ∙ told-parts room (d .queries)
 
   stand-is : partsStanding d ≡ count
   stand-is = ap (λ s. partsIn (readRecord s)) record-is ∙ ap partsIn (record-back parts parts-fit) ∙ count-parts

@@ -17,7 +17,7 @@ use Rattle.value.proofs.RecordLaws.{ValuesFit}
 use Rattle.reply.specs.Reply.{replyText}
 use Rattle.reply_values.specs.Values.{answerOrder}
 use Rattle.script.specs.Script.{Query}
-use Rattle.bench.specs.Run.{Run, ended, after}
+use Rattle.bench.specs.Run.{Run, ended, after, joined}
 use Rattle.agreement.specs.Vehicle.{givenEcu, owed, takes, givenLine, given}
 use Rattle.agreement.specs.Demand.{commandOf, commands, fitting}
 use Rattle.agreement.proofs.Finished.{answer-reordered}
@@ -47,26 +47,26 @@ told room [] = record { answer = result tt; parts = []; handed = [] }
 told room (q ∷ qs) =
     cond (ltb 4096 (length (replyText false false true (q .lines)))) (ended 8 (commandOf q ∷ []))
     (cond (ltb room (length (givenPart q))) (ended 6 (commandOf q ∷ []))
-    (after (givenPart q) (commandOf q ∷ []) (told (room - length (givenPart q)) qs)))
+    (after (givenPart q ∷ []) (commandOf q ∷ []) (told (room - length (givenPart q)) qs)))
 
 -- A run's fields, by how many queries fit.
 record Fields (k : ℕ) (room : ℕ) (qs : List Query) (r : Run) : Type 0 where
   few : k ≤ length qs
-  parts : r .parts ≡ recordBytes (take k (ordered qs))
+  parts : joined (r .parts) ≡ recordBytes (take k (ordered qs))
   handed : r .handed ≡ take (suc k) (commands qs)
-  inside : length (r .parts) ≤ room
+  inside : length (joined (r .parts)) ≤ room
   whole : k ≡ length qs → r .answer ≡ result tt
 
 none-fits : (n room : ℕ) (q : Query) (qs : List Query) → Fields 0 room (q ∷ qs) (ended n (commandOf q ∷ []))
 none-fits n room q qs = record { few = omega arith; parts = refl; handed = refl; inside = omega arith; whole = λ e. absurd (omega arith) }
 
 one-fits : (k room : ℕ) (q : Query) (qs : List Query) (r : Run) → length (givenPart q) ≤ room → Fields k (room - length (givenPart q)) qs r →
-    Fields (suc k) room (q ∷ qs) (after (givenPart q) (commandOf q ∷ []) r)
+    Fields (suc k) room (q ∷ qs) (after (givenPart q ∷ []) (commandOf q ∷ []) r)
 one-fits k room q qs r h f = record {
   few = omega (arith, f .few);
   parts = ap (λ s. givenPart q ++ s) (f .parts);
   handed = ap (λ cs. commandOf q ∷ cs) (f .handed);
-  inside = omega (arith, length-append (givenPart q) (r .parts), f .inside);
+  inside = omega (arith, length-append (givenPart q) (joined (r .parts)), f .inside);
   whole = λ e. f .whole (omega arith);
 }
 
@@ -87,13 +87,13 @@ module _ (room : ℕ) (qs : List Query) where
   pub fitting-few : fitting room qs ≤ length qs
   fitting-few = told-fields room qs .few
 
-  pub told-parts : told room qs .parts ≡ recordBytes (take (fitting room qs) (ordered qs))
+  pub told-parts : joined (told room qs .parts) ≡ recordBytes (take (fitting room qs) (ordered qs))
   told-parts = told-fields room qs .parts
 
   pub told-handed : told room qs .handed ≡ take (suc (fitting room qs)) (commands qs)
   told-handed = told-fields room qs .handed
 
-  pub told-inside : length (told room qs .parts) ≤ room
+  pub told-inside : length (joined (told room qs .parts)) ≤ room
   told-inside = told-fields room qs .inside
 
   pub told-whole : fitting room qs ≡ length qs → told room qs .answer ≡ result tt

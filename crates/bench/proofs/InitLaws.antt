@@ -1,10 +1,10 @@
 -- The initialisation of fresh sessions: ATZ, whose echo and answer arrive as one piece, and then the other commands.
-use mathlib.Core.Path.{_≡_, refl, ap, _∙_}
+use mathlib.Core.Path.{_≡_, refl, sym, ap, _∙_}
 use mathlib.Core.Bool.{Bool, true}
 use mathlib.Core.List.{List, []}
 use Prim.Native.Nat.{ℕ, _≤_}
 use native.Mathlib.Omega.{arith}
-use lib.ListN.{length, take}
+use lib.ListN.{length, take, drop}
 use Rattle.wire.specs.Call.{Said, Served, lent}
 use Rattle.server_session.specs.declared.ServerSession.{ServerSession}
 use Rattle.server_session.specs.Session.{session, freshSession}
@@ -21,19 +21,20 @@ use Rattle.exchange.specs.Exchange.{Exchanged, exchanged, exchangeServed}
 use Rattle.exchange.specs.Exchange as exchange
 use Rattle.bench.specs.declared.Turn as code-turn
 use Rattle.bench.specs.Run.{sendRoom, replyRoom, freshStore, onward, initialised}
-use Rattle.bench.specs.Steps.{turnOf, resetFresh, Does}
+use Rattle.bench.specs.Steps.{turnOf, resetFresh, OnePiece, Does, Comes}
 use Rattle.bench.proofs.TurnLaws.{lent-length, lent-text, lent-inside, reply-text, reply-next, reply-length}
 use Rattle.bench.proofs.AskLaws.{start-text, start-size, start-inside}
-use Rattle.bench.proofs.OnwardLaws.{held-does, held-then, does-held, onward-held}
+use Rattle.bench.proofs.OnwardLaws.{held-then, does-held, onward-held}
 
 -- ATZ goes out
-module _ (repeat : Bool) (out out₁ : List ℕ) (fresh : ClientSession) (i : StartStep) (size : length out ≡ sendRoom) (new : client fresh ≡ freshClient true repeat)
-    (e : startServed i out₁ ≡ lent (initSays (length out) (client fresh)) out) where
+pub reset-sent : (repeat : Bool) (out out₁ : List ℕ) (fresh : ClientSession) (i : StartStep) → length out ≡ sendRoom → client fresh ≡ freshClient true repeat →
+    startServed i out₁ ≡ lent (initSays (length out) (client fresh)) out → startServed i out₁ ≡ lent (initSays sendRoom (freshClient true repeat)) out
+reset-sent repeat out out₁ fresh i size new e = e ∙ (λ j. lent (initSays (size j) (new j)) out)
+
+module _ (repeat : Bool) (out out₁ : List ℕ) (i : StartStep) (size : length out ≡ sendRoom)
+    (started : startServed i out₁ ≡ lent (initSays sendRoom (freshClient true repeat)) out) where
   abbrev starts : Said Client (Unit {0})
   starts = initSays sendRoom (freshClient true repeat)
-
-  started : startServed i out₁ ≡ lent starts out
-  started = e ∙ (λ j. lent (initSays (size j) (new j)) out)
 
   start-fits : length (starts .text) ≤ sendRoom
   start-fits = init-fits sendRoom (freshClient true repeat)
@@ -51,10 +52,13 @@ module _ (repeat : Bool) (out out₁ : List ℕ) (fresh : ClientSession) (i : St
   next = ap (λ (v : Served Client (Unit {0})). v .next) started
 
   -- the server's echo and answer to it are one piece
-  module _ (reply reply₁ store out₂ store₁ : List ℕ) (server : ServerSession) (x : ExchangeStep) (p : PieceStep) (large : length reply ≡ replyRoom)
+  module _ (reply reply₁ store out₂ store₁ : List ℕ) (server : ServerSession) (x : ExchangeStep) (r : code-turn.Turn) (large : length reply ≡ replyRoom)
       (empty : store ≡ freshStore) (ready : session server ≡ freshSession)
       (heard : exchangeServed x reply₁ ≡ exchange.lent (exchanged (length reply) (session server) (take (i .written) out₁) []) reply)
-      (taken : pieceReceived p out₂ store₁ ≡ pieceLent (client (i .session)) (take (x .written) reply₁) store out₁) where
+      (given : OnePiece (pieceLent (client (i .session)) (take (x .written) reply₁) store out₁) (x .session) r out₂ store₁) where
+    abbrev step : PieceStep
+    step = record { answer = r .answer; written = r .written; session = r .bench .client }
+
     abbrev exchanges : Exchanged
     exchanges = exchanged replyRoom freshSession (starts .text) []
 
@@ -67,25 +71,23 @@ module _ (repeat : Bool) (out out₁ : List ℕ) (fresh : ClientSession) (i : St
     abbrev takes : Said Client Progress
     takes = pieceSays sendRoom (starts .next) (exchanges .text) freshStore
 
-    received : pieceReceived p out₂ store₁ ≡ receiving (starts .next) takes (exchanges .text) freshStore out₁
-    received = taken ∙ (λ j. receiving (next j) (pieceSays (same-size j) (next j) (sent j) (empty j)) (sent j) (empty j) out₁)
+    received : pieceReceived step out₂ store₁ ≡ receiving (starts .next) takes (exchanges .text) freshStore out₁
+    received = given .says ∙ (λ j. receiving (next j) (pieceSays (same-size j) (next j) (sent j) (empty j)) (sent j) (empty j) out₁)
 
     takes-fits : length (takes .text) ≤ length out₁
     takes-fits =
         let none : starts .next .query .text ≡ [] = ap (λ (v : Said Client (Unit {0})). v .next .query .text) (init-starts sendRoom (freshClient true repeat) refl (omega arith)) in
         omega (arith, same-size, piece-fits (starts .next) (exchanges .text) freshStore sendRoom (omega (arith, ap length none)))
 
-    pub reset-does : (lengths : List ℕ) →
-        Does (resetFresh repeat lengths) (record { answer = p .answer; written = p .written; bench = record { client = p .session; server = x .session; used = 0 } })
-        out₂ reply₁ store₁ lengths
+    pub reset-does : (lengths : List ℕ) → Does (resetFresh repeat lengths) r out₂ reply₁ store₁ lengths
     reset-does lengths =
-        let v = pieceReceived p out₂ store₁ .served in
+        let v = pieceReceived step out₂ store₁ .served in
         let served : v ≡ lent takes out₁ = ap (λ (v : Received). v .served) received in
-        let s = reply-next (session server) (take (i .written) out₁) [] reply reply₁ x heard ∙ ap (λ (v : Exchanged). v .next) exchanges-is in
+        let s = ap session (given .waits) ∙ reply-next (session server) (take (i .written) out₁) [] reply reply₁ x heard ∙ ap (λ (v : Exchanged). v .next) exchanges-is in
         record {
           answer = ap (λ (v : Received). v .served .answer) received;
           text = lent-text takes out₁ v served takes-fits;
-          bench = λ j. record { client = received j .served .next; store = received j .store; server = s j; lengths = lengths };
+          bench = λ j. record { client = received j .served .next; store = received j .store; server = s j; lengths = drop (given .unused j) lengths };
           inside = lent-inside takes out₁ v served takes-fits;
           room = (
             lent-length takes out₁ v served ∙ same-size,
@@ -96,7 +98,8 @@ module _ (repeat : Bool) (out out₁ : List ℕ) (fresh : ClientSession) (i : St
 -- and then the other commands
 pub initialised-does : (repeat : Bool) (first r : code-turn.Turn) (out reply store lengths out₁ reply₁ store₁ : List ℕ) →
     Does (resetFresh repeat lengths) first out reply store lengths → Does (onward 5 (turnOf first out store lengths) []) r out₁ reply₁ store₁ lengths →
-    Does (initialised repeat lengths) r out₁ reply₁ store₁ lengths
+    Comes (initialised repeat lengths) r reply₁ store₁ lengths
 unfolding initialised
 initialised-does repeat first r out reply store lengths out₁ reply₁ store₁ a b =
-    held-does (held-then (onward-held 5 [] (does-held a)) (does-held b)) (b .inside) (b .room)
+    let h = held-then (onward-held 5 [] (does-held a)) (does-held b) in
+    record { answer = sym (h .answer); bench = sym (h .bench); room = b .room .1 }

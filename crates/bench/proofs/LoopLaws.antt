@@ -26,7 +26,7 @@ use Rattle.bench.specs.declared.Bench as code
 use Rattle.bench.specs.declared.BenchRun.{BenchRun}
 use Rattle.bench.specs.declared.RunAnswer.the-variants.{Complete, Refused}
 use Rattle.bench.specs.declared.PartStep.{PartStep}
-use Rattle.bench.specs.Run.{Part, startSays, asking, finished, part, Run, after, sizeOf, standing, asked, runAnswer, Recorded, recorded, lent}
+use Rattle.bench.specs.Run.{Part, startSays, asking, finished, part, Run, after, sizeOf, standing, asked, runAnswer, Recorded, recorded, joined, lent}
 use Rattle.bench.specs.Steps.{benchOf, partAnswer, PartDoes, IsScript, queriesOf, queriesIn, added, lentFrom}
 
 -- what the host sees is its answer, its length and the buffer
@@ -72,10 +72,10 @@ number-last room at buffer (result bytes) handed others n e =
 
 -- after a part that fits the others follow where it ends
 after-lent : (at : ℕ) (buffer bytes : List ℕ) (handed : List (List ℕ)) (others : Run) → at + length bytes ≤ length buffer →
-    lentFrom at (after bytes handed others) buffer ≡ lentFrom (at + length bytes) others (sets buffer at bytes)
+    lentFrom at (after (bytes ∷ []) handed others) buffer ≡ lentFrom (at + length bytes) others (sets buffer at bytes)
 after-lent at buffer bytes handed others fits =
     let p : Put buffer at bytes (at + length bytes) (sets buffer at bytes) = record { next = omega arith; bytes = refl } in
-    recorded-same refl (omega (arith, length-append bytes (others .parts))) (sym (put-then p (record { next = refl; bytes = refl }) .bytes))
+    recorded-same refl (omega (arith, length-append bytes (joined (others .parts)))) (sym (put-then p (record { next = refl; bytes = refl }) .bytes))
 
 -- A part stands from position at to position end, and left is the record's buffer then.
 record Stands (at : ℕ) (buffer : List ℕ) (a : Answer (List ℕ)) (handed : List (List ℕ)) (others : Run) (end : ℕ) (left : List ℕ) : Type 0 where
@@ -124,7 +124,7 @@ left-start s lengths b place at buffer store (qs, h) p z =
       rest =
           ap (λ n. lent (asked n (benchOf b store lengths) (queriesIn s)) buffer) room ∙
           ap (λ a. lent (asked (length buffer - at) (benchOf b store lengths) (queriesOf a)) buffer) h ∙
-          recorded-same refl (omega arith) (ap (λ n. sets buffer n (asked (length buffer - at) (benchOf b store lengths) qs .parts)) (sym z));
+          recorded-same refl (omega arith) (ap (λ n. sets buffer n (joined (asked (length buffer - at) (benchOf b store lengths) qs .parts))) (sym z));
     }
 
 module _ {whole : Recorded} {s lengths : List ℕ} {b : code.Bench} {place at : ℕ} {buffer store : List ℕ} (l : Left whole s lengths b place at buffer store) where

@@ -11,7 +11,7 @@ use Rattle.bench.specs.declared.RunAnswer.the-variants.{Refused}
 use Rattle.bench.specs.declared.BenchRun.{BenchRun}
 use Rattle.bench.specs.declared.Turn as code-turn
 use Rattle.bench.specs.Run.{Run, asked, begun, initialised, runSays, recorded, lent}
-use Rattle.bench.specs.Steps.{benchOf, pieceNumber, Does, IsScript, queriesIn}
+use Rattle.bench.specs.Steps.{benchOf, pieceNumber, Comes, IsScript, queriesIn}
 use Rattle.bench.proofs.AskLaws.{number-refused, no-number}
 
 module _ (repeat : Bool) (lengths s buffer : List ℕ) where
@@ -24,7 +24,7 @@ module _ (repeat : Bool) (lengths s buffer : List ℕ) where
   script-refused n r e k = rw (k, e)
 
   -- it gets none, and the initialisation comes to a turn
-  module _ (is : IsScript s) (t : code-turn.Turn) (out reply store : List ℕ) (does : Does (initialised repeat lengths) t out reply store lengths) where
+  module _ (is : IsScript s) (t : code-turn.Turn) (reply store : List ℕ) (does : Comes (initialised repeat lengths) t reply store lengths) where
     begins : says ≡ begun (length buffer) (initialised repeat lengths) (pieceAnswer (t .answer)) (queriesIn s)
     unfolding runSays
     begins = rw (is .1, does .answer)

@@ -41,9 +41,9 @@ noData = 0x01 ∷ 0x0C ∷ 0x00 ∷ 0x00 ∷ []
 
 -- the second query of a pair is a repeat: the server hands out the last command replied to, and answers `?` where there is none, so that the query follows in full
 examples :
-    (runSays true [] 65536 worked ≡ record { answer = result tt; parts = workedPart; handed = ascii "010C1" ∷ [] }) ×
-    (runSays true [] 9 (worked ++ worked) ≡ record { answer = refused 6; parts = workedPart; handed = ascii "010C1" ∷ ascii "010C1" ∷ [] }) ×
-    (runSays true [] 2 (noData ++ noData) ≡ record { answer = result tt; parts = 0x00 ∷ 0x00 ∷ []; handed = ascii "010C" ∷ ascii "010C" ∷ [] }) ×
+    (runSays true [] 65536 worked ≡ record { answer = result tt; parts = workedPart ∷ []; handed = ascii "010C1" ∷ [] }) ×
+    (runSays true [] 9 (worked ++ worked) ≡ record { answer = refused 6; parts = workedPart ∷ []; handed = ascii "010C1" ∷ ascii "010C1" ∷ [] }) ×
+    (runSays true [] 2 (noData ++ noData) ≡ record { answer = result tt; parts = (0x00 ∷ []) ∷ (0x00 ∷ []) ∷ []; handed = ascii "010C" ∷ ascii "010C" ∷ [] }) ×
     (runSays true [] 9 (0x00 ∷ worked) ≡ record { answer = refused 5; parts = []; handed = [] })
 unfolding has high isSpace raised hexDigit digit leading j1979 mode01Lengths groupBytes lineList valueBytes atKind lineText replyText canonical byteNumber byteTaken byteSays bytesSay answerSays replySays queryText textLines textLine replyLines walked answerOrder learnLength initSays queryPidSays queryPidsSays replyTakes pieceSays finishSays script exchanged pieces delivered initialised part runSays
 examples = (refl, refl, refl, refl)

@@ -154,19 +154,19 @@ part b q = finished (asking b (startSays (b .client) (q .pids) (q .count)) (line
 
 -- ---- the list of queries
 
--- What a run comes to: its answer, the parts that stand in the record, and the OBD commands handed out, in order.
+-- What a run comes to: its answer, the parts that stand in the record, one for each query, and the OBD commands handed out, in order.
 pub record Run : Type 0 where
   pub answer : Answer (Unit {0})
-  pub parts : List ℕ
+  pub parts : List (List ℕ)
   pub handed : List (List ℕ)
 
 -- a number ends the run
 abbrev pub ended : ℕ → List (List ℕ) → Run
 ended n handed = record { answer = refused n; parts = []; handed = handed }
 
--- the same with a part and some commands before it
-abbrev pub after : List ℕ → List (List ℕ) → Run → Run
-after bytes handed r = record { answer = r .answer; parts = bytes ++ r .parts; handed = handed ++ r .handed }
+-- the same with some parts and some commands before it
+abbrev pub after : List (List ℕ) → List (List ℕ) → Run → Run
+after parts handed r = record { answer = r .answer; parts = parts ++ r .parts; handed = handed ++ r .handed }
 
 abbrev pub sizeOf : Answer (List ℕ) → ℕ
 sizeOf (refused n) = 0
@@ -175,7 +175,7 @@ sizeOf (result bytes) = length bytes
 -- a part stands if the record has room for it, and then the others follow
 abbrev pub standing : ℕ → Answer (List ℕ) → List (List ℕ) → Run → Run
 standing room (refused n) handed others = ended n handed
-standing room (result bytes) handed others = cond (ltb room (length bytes)) (ended 6 handed) (after bytes handed others)
+standing room (result bytes) handed others = cond (ltb room (length bytes)) (ended 6 handed) (after (bytes ∷ []) handed others)
 
 -- queries one after the other, with the record's room that is left
 abbrev pub asked : ℕ → Bench → List Query → Run
@@ -216,6 +216,11 @@ pub record Recorded : Type 0 where
 abbrev pub recorded : BenchRun → List ℕ → Recorded
 recorded r out = record { answer = runAnswer (r .answer); written = r .written; out = out }
 
+-- the bytes of the record: its parts one after the other
+abbrev pub joined : List (List ℕ) → List ℕ
+joined [] = []
+joined (p ∷ ps) = p ++ joined ps
+
 -- the parts stand at the front of the lent buffer, and past them it keeps what it held
 abbrev pub lent : Run → List ℕ → Recorded
-lent d out = record { answer = d .answer; written = length (d .parts); out = sets out 0 (d .parts) }
+lent d out = record { answer = d .answer; written = length (joined (d .parts)); out = sets out 0 (joined (d .parts)) }

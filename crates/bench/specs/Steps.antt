@@ -6,20 +6,23 @@ use Prim.Native.Nat.{ℕ, zero, suc, _+_, _≤_}
 use lib.ListN.{length, take, drop}
 use lib.Seq.{sets}
 use Rattle.wire.specs.Answer.{Answer, result, refused}
+use Rattle.wire.specs.Call.{Said}
 use Rattle.group.specs.Group.{groupBytes}
 use Rattle.server_session.specs.declared.ServerSession.{ServerSession}
 use Rattle.server_session.specs.Session.{session, freshSession}
-use Rattle.client_session.specs.Session.{client, freshClient}
+use Rattle.client_session.specs.Session.{Client, client, freshClient}
 use Rattle.client_session.specs.Start.{initSays}
 use Rattle.client_session.specs.declared.PieceAnswer.{PieceAnswer}
-use Rattle.client_session.specs.Piece.{Progress, awaited, sent, over, complete, pieceAnswer}
+use Rattle.client_session.specs.declared.FinishAnswer.{FinishAnswer}
+use Rattle.client_session.specs.Piece.{Progress, awaited, sent, over, complete, pieceAnswer, Received, pieceReceived}
+use Rattle.client_session.specs.Finish.{finishAnswer}
 use Rattle.exchange.specs.Exchange.{exchanged}
 use Rattle.exchange.specs.Deliver.{Delivered}
 use Rattle.script.specs.Script.{Query, script}
 use Rattle.bench.specs.declared.Bench as code
 use Rattle.bench.specs.declared.PartStep.{PartStep}
 use Rattle.bench.specs.declared.Turn as code-turn
-use Rattle.bench.specs.Run.{Bench, Turn, Part, Run, Recorded, sendRoom, replyRoom, valuesRoom, reset, standing}
+use Rattle.bench.specs.Run.{Bench, Turn, Part, Run, Recorded, sendRoom, replyRoom, reset, finished, standing, joined}
 
 -- both sessions as the code holds them
 abbrev pub benchOf : code.Bench → List ℕ → List ℕ → Bench
@@ -50,6 +53,22 @@ pub record Back (d : Delivered) (server : ServerSession) (r : code-turn.Turn) (o
   pub inside : r .written ≤ length out
   pub size : length out ≡ sendRoom
 
+-- The same for a reply that has been delivered as one piece; no piece length is used up.
+pub record OnePiece (d : Received) (server : ServerSession) (r : code-turn.Turn) (out store : List ℕ) : Type 0 where
+  pub says : pieceReceived (record { answer = r .answer; written = r .written; session = r .bench .client }) out store ≡ d
+  pub waits : r .bench .server ≡ server
+  pub unused : r .bench .used ≡ 0
+
+-- A query has been started, and its command is the next to be sent.
+pub record Begins (s : Said Client (Unit {0})) (b : code.Bench) (r : code-turn.Turn) (out : List ℕ) : Type 0 where
+  pub answer : pieceAnswer (r .answer) ≡ result sent
+  pub text : take (r .written) out ≡ s .text
+  pub next : client (r .bench .client) ≡ s .next
+  pub waits : r .bench .server ≡ b .server
+  pub used : r .bench .used ≡ b .used
+  pub inside : r .written ≤ length out
+  pub size : length out ≡ sendRoom
+
 -- A turn does what is said.
 pub record Does (t : Turn) (r : code-turn.Turn) (out reply store lengths : List ℕ) : Type 0 where
   pub answer : pieceAnswer (r .answer) ≡ t .answer
@@ -57,6 +76,12 @@ pub record Does (t : Turn) (r : code-turn.Turn) (out reply store lengths : List 
   pub bench : benchOf (r .bench) store lengths ≡ t .bench
   pub inside : r .written ≤ length out
   pub room : Room out reply
+
+-- The same where nothing more is to be sent.
+pub record Comes (t : Turn) (r : code-turn.Turn) (reply store lengths : List ℕ) : Type 0 where
+  pub answer : pieceAnswer (r .answer) ≡ t .answer
+  pub bench : benchOf (r .bench) store lengths ≡ t .bench
+  pub room : length reply ≡ replyRoom
 
 abbrev pub isSentAnswer : Answer Progress → Bool
 isSentAnswer (refused n) = false
@@ -76,6 +101,21 @@ numberOf (refused n) = n
 abbrev pub pieceNumber : PieceAnswer → ℕ
 pieceNumber a = numberOf (pieceAnswer a)
 
+-- the same in what a finish says, and the number of values
+abbrev pub finishNumber : FinishAnswer → ℕ
+finishNumber a = numberOf (finishAnswer a)
+
+abbrev pub countIn : Answer ℕ → ℕ
+countIn (result n) = n
+countIn (refused n) = 0
+
+abbrev pub finishCount : FinishAnswer → ℕ
+finishCount a = countIn (finishAnswer a)
+
+-- the query of a client whose reply is complete is finished
+abbrev pub closed : Bench → Part
+closed b = finished (record { answer = result complete; text = []; bench = b; handed = [] })
+
 -- a query's part as the code holds it: the count and the values apart
 abbrev pub partAnswer : ℕ → ℕ → List ℕ → Answer (List ℕ)
 partAnswer zero count text = result (groupBytes count ++ text)
@@ -86,7 +126,7 @@ pub record PartDoes (p : Part) (r : PartStep) (values store lengths : List ℕ) 
   pub answer : partAnswer (r .number) (r .count) (take (r .written) values) ≡ p .answer
   pub bench : benchOf (r .bench) store lengths ≡ p .bench
   pub inside : r .written ≤ length values
-  pub room : length values ≡ valuesRoom
+  pub room : length values ≡ replyRoom
 
 -- the script is well formed, and its queries
 abbrev pub IsScript : List ℕ → Type 0
@@ -105,4 +145,4 @@ added room a = standing room a [] (record { answer = result tt; parts = []; hand
 
 -- the parts of a run that stand from position at on
 abbrev pub lentFrom : ℕ → Run → List ℕ → Recorded
-lentFrom at d out = record { answer = d .answer; written = at + length (d .parts); out = sets out at (d .parts) }
+lentFrom at d out = record { answer = d .answer; written = at + length (joined (d .parts)); out = sets out at (joined (d .parts)) }

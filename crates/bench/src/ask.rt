@@ -16,8 +16,8 @@ ghost use Rattle.wire.specs.Call.{lent};
 ghost use Rattle.query.specs.Query.{countOf};
 ghost use Rattle.client_session.specs.Session.{client};
 ghost use Rattle.client_session.specs.Start.{startServed};
-ghost use Rattle.bench.specs.Run.{sendRoom, valuesRoom, startSays, asking, finished};
-ghost use Rattle.bench.specs.Steps.{benchOf, turnOf, Room, Does, pieceNumber, PartDoes};
+ghost use Rattle.bench.specs.Run.{sendRoom, replyRoom, startSays, asking, finished};
+ghost use Rattle.bench.specs.Steps.{benchOf, turnOf, Begins, Comes, pieceNumber, finishNumber, finishCount, closed, PartDoes};
 
 // The number of ECUs that a query waits for, from its count+1 in a script.
 fn ecu_count(count: u16) -> EcuCount
@@ -42,31 +42,42 @@ fn start(session: ClientSession, pids: &[u8], count: u16, out: &mut [u8]) -> Sta
     session.query_pids(pids, ecus, out)
 }
 
-// Asks a query; a repeat that meets `?` is followed by the query in full.
-pub(crate) fn ask(
-    bench: Bench,
-    pids: &[u8],
-    count: u16,
-    list: &[u8],
-    lengths: &[u8],
-    out: &mut [u8],
-    reply: &mut [u8],
-    store: &mut [u8],
-) -> Turn
-    requires { ⌜ (count ≤ 256) × Room (now out) (now reply) ⌝ }
-    ensures { λ r. ⌜ Does (asking (benchOf bench (now (store .entry)) (now (lengths .entry))) (startSays (client (bench .client)) (now (pids .entry)) count) (now (list .entry))) r (now (out .exit)) (now (reply .exit)) (now (store .exit)) (now (lengths .entry)) ⌝ }
+// The client's command for a query is the next to be sent.
+fn begin(bench: Bench, pids: &[u8], count: u16, out: &mut [u8]) -> Turn
+    requires { ⌜ (count ≤ 256) × (length (now out) ≡ sendRoom) ⌝ }
+    ensures { λ r. ⌜ Begins (startSays (client (bench .client)) (now (pids .entry)) count) bench r (now (out .exit)) ⌝ }
 {
     let session = bench.client;
     let server = bench.server;
     let begun = start(session, pids, count, out);
     let client = begun.session;
-    let waiting = Bench {
-        client,
-        server,
-        used: bench.used,
-    };
-    let first = turns::turn(waiting, begun.written, list, lengths, out, reply, store);
-    turns::onward(first, 1, list, lengths, out, reply, store)
+    Turn {
+        answer: PieceAnswer::Sent,
+        written: begun.written,
+        bench: Bench {
+            client,
+            server,
+            used: bench.used,
+        },
+    }
+}
+
+// Asks a query: its command, and after a repeat that meets `?` the query in full.
+fn ask(
+    bench: Bench,
+    pids: &[u8],
+    count: u16,
+    list: &[u8],
+    lengths: &[u8],
+    reply: &mut [u8],
+    store: &mut [u8],
+) -> Turn
+    requires { ⌜ (count ≤ 256) × (length (now reply) ≡ replyRoom) ⌝ }
+    ensures { λ r. ⌜ Comes (asking (benchOf bench (now (store .entry)) (now (lengths .entry))) (startSays (client (bench .client)) (now (pids .entry)) count) (now (list .entry))) r (now (reply .exit)) (now (store .exit)) (now (lengths .entry)) ⌝ }
+{
+    let mut out = [0u8; 80];
+    let begun = begin(bench, pids, count, &mut out);
+    turns::onward(begun, 2, list, lengths, &mut out, reply, store)
 }
 
 // The number of document 01 in what a piece says, 0 for none.
@@ -87,67 +98,84 @@ pub(crate) fn piece_number(answer: PieceAnswer) -> u8
     }
 }
 
-// A number ends the run.
-fn ended(number: u8, bench: Bench) -> PartStep
-    ensures { λ r. ⌜ r ≡ record { number = number; count = 0; written = 0; bench = bench } ⌝ }
+// The same in what a finish says.
+fn finish_number(answer: FinishAnswer) -> u8
+    ensures { λ r. ⌜ r ≡ finishNumber answer ⌝ }
 {
-    PartStep {
-        number,
-        count: 0,
-        written: 0,
-        bench,
+    match answer {
+        FinishAnswer::Values(_) => 0,
+        FinishAnswer::OutOfTurn => 1,
+        FinishAnswer::SmallBuffer => 6,
+        FinishAnswer::NotAscii => 9,
+    }
+}
+
+// How many values a finish tells of.
+fn finish_count(answer: FinishAnswer) -> usize
+    ensures { λ r. ⌜ r ≡ finishCount answer ⌝ }
+{
+    match answer {
+        FinishAnswer::Values(count) => count,
+        FinishAnswer::OutOfTurn => 0,
+        FinishAnswer::SmallBuffer => 0,
+        FinishAnswer::NotAscii => 0,
     }
 }
 
 // Finishes a query whose reply is complete: its values stand in the lent buffer.
-pub(crate) fn finish(asked: Turn, store: &[u8], values: &mut [u8]) -> PartStep
-    requires { ⌜ length (now values) ≡ valuesRoom ⌝ }
+fn close(bench: Bench, store: &[u8], values: &mut [u8]) -> PartStep
+    requires { ⌜ length (now values) ≡ replyRoom ⌝ }
+    ensures { λ r. ⌜ ((lengths : List ℕ) → PartDoes (closed (benchOf bench (now (store .entry)) lengths)) r (now (values .exit)) (now (store .entry)) lengths) ⌝ }
+{
+    let session = bench.client;
+    let server = bench.server;
+    let step = session.finish(store, values);
+    let answer = step.answer;
+    let client = step.session;
+    PartStep {
+        number: finish_number(answer),
+        count: finish_count(answer),
+        written: step.written,
+        bench: Bench {
+            client,
+            server,
+            used: bench.used,
+        },
+    }
+}
+
+// Finishes a query, unless its reply got a number.
+fn finish(asked: Turn, store: &[u8], values: &mut [u8]) -> PartStep
+    requires { ⌜ length (now values) ≡ replyRoom ⌝ }
     ensures { λ r. ⌜ ((lengths : List ℕ) → PartDoes (finished (turnOf asked [] (now (store .entry)) lengths)) r (now (values .exit)) (now (store .entry)) lengths) ⌝ }
 {
     let answer = asked.answer;
     let bench = asked.bench;
     let number = piece_number(answer);
     if number != 0 {
-        return ended(number, bench);
+        return PartStep {
+            number,
+            count: 0,
+            written: 0,
+            bench,
+        };
     }
-    let session = bench.client;
-    let server = bench.server;
-    let step = session.finish(store, values);
-    let client = step.session;
-    let next = Bench {
-        client,
-        server,
-        used: bench.used,
-    };
-    let said = step.answer;
-    match said {
-        FinishAnswer::Values(count) => PartStep {
-            number: 0,
-            count,
-            written: step.written,
-            bench: next,
-        },
-        FinishAnswer::OutOfTurn => ended(1, next),
-        FinishAnswer::SmallBuffer => ended(6, next),
-        FinishAnswer::NotAscii => ended(9, next),
-    }
+    close(bench, store, values)
 }
 
-// Asks a query and finishes it.
+// Asks a query and finishes it. What the server sends stands in work, and then the query's values.
 pub(crate) fn part(
     bench: Bench,
     pids: &[u8],
     count: u16,
     list: &[u8],
     lengths: &[u8],
-    out: &mut [u8],
-    reply: &mut [u8],
+    work: &mut [u8],
     store: &mut [u8],
-    values: &mut [u8],
 ) -> PartStep
-    requires { ⌜ (count ≤ 256) × Room (now out) (now reply) × (length (now values) ≡ valuesRoom) ⌝ }
-    ensures { λ r. ⌜ PartDoes (finished (asking (benchOf bench (now (store .entry)) (now (lengths .entry))) (startSays (client (bench .client)) (now (pids .entry)) count) (now (list .entry)))) r (now (values .exit)) (now (store .exit)) (now (lengths .entry)) × Room (now (out .exit)) (now (reply .exit)) ⌝ }
+    requires { ⌜ (count ≤ 256) × (length (now work) ≡ replyRoom) ⌝ }
+    ensures { λ r. ⌜ PartDoes (finished (asking (benchOf bench (now (store .entry)) (now (lengths .entry))) (startSays (client (bench .client)) (now (pids .entry)) count) (now (list .entry)))) r (now (work .exit)) (now (store .exit)) (now (lengths .entry)) ⌝ }
 {
-    let asked = ask(bench, pids, count, list, lengths, out, reply, store);
-    finish(asked, store, values)
+    let asked = ask(bench, pids, count, list, lengths, work, store);
+    finish(asked, store, work)
 }

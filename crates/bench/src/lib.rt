@@ -15,8 +15,8 @@ ghost use lib.ListN.{length, take};
 ghost use Rattle.wire.specs.Put.{Put};
 ghost use Rattle.group.specs.Group.{groupBytes};
 ghost use Rattle.bench.specs.declared.RunAnswer.the-variants.{Refused};
-ghost use Rattle.bench.specs.Run.{valuesRoom, asked, runSays, recorded, lent};
-ghost use Rattle.bench.specs.Steps.{benchOf, Room, partAnswer, added, lentFrom, IsScript, queriesIn};
+ghost use Rattle.bench.specs.Run.{replyRoom, asked, runSays, recorded, lent};
+ghost use Rattle.bench.specs.Steps.{benchOf, partAnswer, added, lentFrom, IsScript, queriesIn};
 
 // How a run ended.
 pub enum RunAnswer {
@@ -74,19 +74,25 @@ fn put_part(buffer: &mut [u8], at: usize, count: usize, values: &[u8]) -> usize
     wire::put(buffer, start, values)
 }
 
-// Writes a query's part into the record from position at on, if there is room for it.
-fn add_part(part: PartStep, values: &[u8], buffer: &mut [u8], at: usize) -> BenchRun
-    requires { ⌜ (part .written ≤ length (now values)) × (at ≤ length (now buffer)) ⌝ }
-    ensures { λ r. ⌜ recorded r (now (buffer .exit)) ≡ lentFrom at (added (length (now (buffer .entry)) - at) (partAnswer (part .number) (part .count) (take (part .written) (now (values .entry))))) (now (buffer .entry)) ⌝ }
+// Writes a query's part, which has size bytes of values, into the record from position at on, if there is room for it.
+fn add_part(
+    number: u8,
+    count: usize,
+    size: usize,
+    values: &[u8],
+    buffer: &mut [u8],
+    at: usize,
+) -> BenchRun
+    requires { ⌜ (size ≤ length (now values)) × (at ≤ length (now buffer)) ⌝ }
+    ensures { λ r. ⌜ recorded r (now (buffer .exit)) ≡ lentFrom at (added (length (now (buffer .entry)) - at) (partAnswer number count (take size (now (values .entry))))) (now (buffer .entry)) ⌝ }
 {
-    if part.number != 0 {
-        return refused(part.number, at);
+    if number != 0 {
+        return refused(number, at);
     }
-    let size = part.written;
-    if buffer.len() - at < group::group_size(part.count) + size {
+    if buffer.len() - at < group::group_size(count) + size {
         return refused(6, at);
     }
-    let end = put_part(buffer, at, part.count, &values[..size]);
+    let end = put_part(buffer, at, count, &values[..size]);
     BenchRun {
         answer: RunAnswer::Complete,
         written: end,
@@ -97,17 +103,14 @@ fn add_part(part: PartStep, values: &[u8], buffer: &mut [u8], at: usize) -> Benc
 fn ask_all(
     script: &[u8],
     lengths: &[u8],
-    from: Bench,
+    mut bench: Bench,
     buffer: &mut [u8],
-    out: &mut [u8],
-    reply: &mut [u8],
+    work: &mut [u8],
     store: &mut [u8],
-    values: &mut [u8],
 ) -> BenchRun
-    requires { ⌜ IsScript (now script) × Room (now out) (now reply) × (length (now values) ≡ valuesRoom) ⌝ }
-    ensures { λ r. ⌜ recorded r (now (buffer .exit)) ≡ lent (asked (length (now (buffer .entry))) (benchOf from (now (store .entry)) (now (lengths .entry))) (queriesIn (now (script .entry)))) (now (buffer .entry)) ⌝ }
+    requires { ⌜ IsScript (now script) × (length (now work) ≡ replyRoom) ⌝ }
+    ensures { λ r. ⌜ recorded r (now (buffer .exit)) ≡ lent (asked (length (now (buffer .entry))) (benchOf bench (now (store .entry)) (now (lengths .entry))) (queriesIn (now (script .entry)))) (now (buffer .entry)) ⌝ }
 {
-    let mut bench = from;
     let mut cursor = ScriptCursor::new();
     let mut at: usize = 0;
     while cursor.at < script.len() {
@@ -129,12 +132,10 @@ fn ask_all(
             count,
             &script[list..list_end],
             lengths,
-            out,
-            reply,
+            work,
             store,
-            values,
         );
-        let added = add_part(part, values, buffer, at);
+        let added = add_part(part.number, part.count, part.written, work, buffer, at);
         let answer = added.answer;
         if let RunAnswer::Refused(_) = answer {
             return added;
@@ -154,27 +155,16 @@ fn run_checked(script: &[u8], lengths: &[u8], repeat: bool, buffer: &mut [u8]) -
     requires { ⌜ IsScript (now script) ⌝ }
     ensures { λ r. ⌜ recorded r (now (buffer .exit)) ≡ lent (runSays repeat (now (lengths .entry)) (length (now (buffer .entry))) (now (script .entry))) (now (buffer .entry)) ⌝ }
 {
-    let mut out = [0u8; 80];
-    let mut reply = [0u8; 33026];
+    let mut work = [0u8; 33026];
     let mut store = [0u8; 4096];
-    let mut values = [0u8; 12291];
-    let begun = turns::initialise(repeat, lengths, &mut out, &mut reply, &mut store);
+    let begun = turns::initialise(repeat, lengths, &mut work, &mut store);
     let answer = begun.answer;
     let number = ask::piece_number(answer);
     if number != 0 {
         return refused(number, 0);
     }
     let bench = begun.bench;
-    ask_all(
-        script,
-        lengths,
-        bench,
-        buffer,
-        &mut out,
-        &mut reply,
-        &mut store,
-        &mut values,
-    )
+    ask_all(script, lengths, bench, buffer, &mut work, &mut store)
 }
 
 // Runs a script, with the lengths of the pieces that the server's bytes are handed to the client in, and with repeat on or off. The parts stand at the front of

@@ -3,15 +3,20 @@ use crate::Bench;
 use crate::Turn;
 use client_session::ClientSession;
 use client_session::PieceAnswer;
+use client_session::StartStep;
 use server_session::ServerSession;
 ghost use mathlib.Core.Path.{_≡_};
+ghost use mathlib.Core.Bool.{true};
 ghost use mathlib.Core.List.{List};
 ghost use Prim.Native.Nat.{ℕ, _≤_};
 ghost use lib.ListN.{length, take, drop};
-ghost use Rattle.client_session.specs.Session.{client};
+ghost use Rattle.wire.specs.Call.{lent};
+ghost use Rattle.client_session.specs.Session.{client, freshClient};
+ghost use Rattle.client_session.specs.Start.{initSays, startServed};
+ghost use Rattle.client_session.specs.Piece.{pieceLent};
 ghost use Rattle.exchange.specs.Deliver.{delivered};
-ghost use Rattle.bench.specs.Run.{sendRoom, freshStore, turn, onward, initialised};
-ghost use Rattle.bench.specs.Steps.{isSent, benchOf, turnOf, resetFresh, Room, Back, Does};
+ghost use Rattle.bench.specs.Run.{sendRoom, replyRoom, freshStore, turn, onward, initialised};
+ghost use Rattle.bench.specs.Steps.{isSent, benchOf, turnOf, resetFresh, Room, Back, OnePiece, Does, Comes};
 
 // What the server sent goes back to the client in pieces.
 fn back(
@@ -41,7 +46,7 @@ fn back(
 }
 
 // The client's first n bytes of out go to the server, and all that it sends for them comes back in pieces.
-pub(crate) fn turn(
+fn turn(
     bench: Bench,
     n: usize,
     list: &[u8],
@@ -81,7 +86,7 @@ fn is_sent(answer: PieceAnswer) -> bool
 
 // At most n further commands.
 pub(crate) fn onward(
-    from: Turn,
+    mut at: Turn,
     n: usize,
     list: &[u8],
     lengths: &[u8],
@@ -89,10 +94,9 @@ pub(crate) fn onward(
     reply: &mut [u8],
     store: &mut [u8],
 ) -> Turn
-    requires { ⌜ (from .written ≤ length (now out)) × Room (now out) (now reply) ⌝ }
-    ensures { λ r. ⌜ Does (onward n (turnOf from (now (out .entry)) (now (store .entry)) (now (lengths .entry))) (now (list .entry))) r (now (out .exit)) (now (reply .exit)) (now (store .exit)) (now (lengths .entry)) ⌝ }
+    requires { ⌜ (at .written ≤ length (now out)) × Room (now out) (now reply) ⌝ }
+    ensures { λ r. ⌜ Does (onward n (turnOf at (now (out .entry)) (now (store .entry)) (now (lengths .entry))) (now (list .entry))) r (now (out .exit)) (now (reply .exit)) (now (store .exit)) (now (lengths .entry)) ⌝ }
 {
-    let mut at = from;
     let mut left = n;
     while 0 < left {
         let answer = at.answer;
@@ -106,19 +110,26 @@ pub(crate) fn onward(
     at
 }
 
-// A fresh client's ATZ at a fresh server. Its echo and its answer arrive as one piece.
-fn reset(repeat: bool, out: &mut [u8], reply: &mut [u8], store: &mut [u8]) -> Turn
-    requires { ⌜ Room (now out) (now reply) × (now store ≡ freshStore) ⌝ }
-    ensures { λ r. ⌜ ((lengths : List ℕ) → Does (resetFresh repeat lengths) r (now (out .exit)) (now (reply .exit)) (now (store .exit)) lengths) ⌝ }
+// A fresh client sends ATZ.
+fn send_reset(repeat: bool, out: &mut [u8]) -> StartStep
+    requires { ⌜ length (now out) ≡ sendRoom ⌝ }
+    ensures { λ r. ⌜ startServed r (now (out .exit)) ≡ lent (initSays sendRoom (freshClient true repeat)) (now (out .entry)) ⌝ }
 {
     let fresh = ClientSession::new(true, repeat);
-    let start = fresh.init(out);
-    let n = start.written;
-    let waiting = start.session;
-    let heard = exchange::exchange(ServerSession::new(), &out[..n], b"", reply);
-    let end = heard.written;
-    let server = heard.session;
-    let step = waiting.piece(&reply[..end], store, out);
+    fresh.init(out)
+}
+
+// What the server sent goes back to the client as one piece.
+fn one_piece(
+    session: ClientSession,
+    server: ServerSession,
+    sent: &[u8],
+    out: &mut [u8],
+    store: &mut [u8],
+) -> Turn
+    ensures { λ r. ⌜ OnePiece (pieceLent (client session) (now (sent .entry)) (now (store .entry)) (now (out .entry))) server r (now (out .exit)) (now (store .exit)) ⌝ }
+{
+    let step = session.piece(sent, store, out);
     let answer = step.answer;
     let client = step.session;
     Turn {
@@ -132,17 +143,26 @@ fn reset(repeat: bool, out: &mut [u8], reply: &mut [u8], store: &mut [u8]) -> Tu
     }
 }
 
-// A fresh client and a fresh server after the initialisation.
-pub(crate) fn initialise(
-    repeat: bool,
-    lengths: &[u8],
-    out: &mut [u8],
-    reply: &mut [u8],
-    store: &mut [u8],
-) -> Turn
+// A fresh client's ATZ at a fresh server. Its echo and its answer arrive as one piece.
+fn reset(repeat: bool, out: &mut [u8], reply: &mut [u8], store: &mut [u8]) -> Turn
     requires { ⌜ Room (now out) (now reply) × (now store ≡ freshStore) ⌝ }
-    ensures { λ r. ⌜ Does (initialised repeat (now (lengths .entry))) r (now (out .exit)) (now (reply .exit)) (now (store .exit)) (now (lengths .entry)) ⌝ }
+    ensures { λ r. ⌜ ((lengths : List ℕ) → Does (resetFresh repeat lengths) r (now (out .exit)) (now (reply .exit)) (now (store .exit)) lengths) ⌝ }
 {
-    let first = reset(repeat, out, reply, store);
-    onward(first, 5, b"", lengths, out, reply, store)
+    let start = send_reset(repeat, out);
+    let n = start.written;
+    let waiting = start.session;
+    let heard = exchange::exchange(ServerSession::new(), &out[..n], b"", reply);
+    let end = heard.written;
+    let server = heard.session;
+    one_piece(waiting, server, &reply[..end], out, store)
+}
+
+// A fresh client and a fresh server after the initialisation.
+pub(crate) fn initialise(repeat: bool, lengths: &[u8], reply: &mut [u8], store: &mut [u8]) -> Turn
+    requires { ⌜ (length (now reply) ≡ replyRoom) × (now store ≡ freshStore) ⌝ }
+    ensures { λ r. ⌜ Comes (initialised repeat (now (lengths .entry))) r (now (reply .exit)) (now (store .exit)) (now (lengths .entry)) ⌝ }
+{
+    let mut out = [0u8; 80];
+    let first = reset(repeat, &mut out, reply, store);
+    onward(first, 5, b"", lengths, &mut out, reply, store)
 }

@@ -1,3 +1,5 @@
-mod FitLaws
+mod LineLaws
+mod PartLaws
+mod StandLaws
 mod HireLaws
 mod Worked

@@ -1,1 +1,2 @@
 pub mod Hire
+pub mod Steps

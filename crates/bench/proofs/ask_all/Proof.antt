@@ -1,7 +1,7 @@
 -- `bench::ask_all` meets its contract.
 use Rattle.bench.proofs.LoopLaws.{Left, left-start, left-end, left-some, left-refused, left-next}
-use Rattle.bench.specs.Steps.{benchOf, Room, queriesIn}
-use Rattle.bench.specs.Run.{valuesRoom, asked, lent}
+use Rattle.bench.specs.Steps.{benchOf, queriesIn}
+use Rattle.bench.specs.Run.{replyRoom, asked, Recorded, lent}
 use Rattle.script.proofs.StepLaws.{QueryHere, step-query}
 use Rattle.script.specs.Script.{Query}
 use Rattle.wire.proofs.All.{Bytes, all-from}
@@ -14,12 +14,11 @@ use Rattle.bench.proofs.ask_all.Statement.{statement}
 use Rattle.bench.proofs.ask_all.Tie as tie
 
 abbrev Inv-loop : tie.InvT-loop
-Inv-loop script lengths buffer₀ out₀ reply₀ store₀ values₀ bench₀ cursor₀ at₀ buffer out reply store values bench cursor at =
-    Left (lent (asked (length buffer₀) (benchOf bench₀ store₀ lengths) (queriesIn script)) buffer₀) script lengths bench (cursor .at) at buffer store × Room out reply ×
-    (length values ≡ valuesRoom) × (length buffer ≡ length buffer₀) × (length store ≡ length store₀)
+Inv-loop script lengths bench₀ buffer₀ work₀ store₀ cursor₀ at₀ bench buffer work store cursor at =
+    Left (lent (asked (length buffer₀) (benchOf bench₀ store₀ lengths) (queriesIn script)) buffer₀) script lengths bench (cursor .at) at buffer store × (length work ≡ replyRoom) × (length buffer ≡ length buffer₀) × (length store ≡ length store₀)
 
 abbrev μ-loop : tie.MeasureT-loop
-μ-loop script lengths buffer₀ out₀ reply₀ store₀ values₀ bench₀ cursor₀ at₀ buffer out reply store values bench cursor at =
+μ-loop script lengths bench₀ buffer₀ work₀ store₀ cursor₀ at₀ bench buffer work store cursor at =
     length script - cursor .at
 
 bytes : (k : tie.After-shared-slice-known Inv-loop μ-loop) → Bytes (k .before .args .script .now)
@@ -27,7 +26,12 @@ bytes k = all-from (λ b. b < 256) (k .before .args .script .now) (λ i h. omega
 
 -- the start of the function, and the start of a turn of the loop
 abbrev start : tie.At-loop Inv-loop μ-loop → tie.Start Inv-loop μ-loop
-start k = k .before .before .before .before .before .before .before .before .before
+start k = k .before .before .before .before .before .before .before
+
+-- all that the run comes to
+abbrev whole : tie.Start Inv-loop μ-loop → Recorded
+whole s =
+    lent (asked (length (s .args .buffer .now)) (benchOf (s .args .bench) (s .args .store .now) (s .args .lengths .now)) (queriesIn (s .args .script .now))) (s .args .buffer .now)
 
 abbrev turn : tie.After-known-told Inv-loop μ-loop → tie.At-loop Inv-loop μ-loop
 turn k = k .before .before .before .before .before .before
@@ -35,22 +39,22 @@ turn k = k .before .before .before .before .before .before
 -- the query that a step found
 here : (k : tie.After-known-told Inv-loop μ-loop) → let g = k .before .pids .given .0 in
     (q : Query) × QueryHere (start (turn k) .args .script .now) (turn k .loop .cursor .at) q (g .0) (g .1 .0) (g .1 .1 .0) (g .1 .1 .1 .0) (g .1 .1 .1 .1 .0 .at)
-here k = step-query _ _ (bytes (turn k .before .before .before .before .before .before .before .before)) (k .before .before .before .step .ensures) (k .before .pids .given .1)
+here k = step-query _ _ (bytes (turn k .before .before .before .before .before .before)) (k .before .before .before .step .ensures) (k .before .pids .given .1)
 
 -- after the query's part: where the query was found, and the call that asked it
-abbrev found : tie.After-slice-known10 Inv-loop μ-loop → tie.After-known-told Inv-loop μ-loop
-found k = k .before .before .before .before .before .before .before .before .before .before .before .before .before .before .before .before .before .before .before .before
+abbrev found : tie.After-slice-known6 Inv-loop μ-loop → tie.After-known-told Inv-loop μ-loop
+found k = k .before .before .before .before .before .before .before .before .before .before .before .before .before .before
 
-abbrev heard : tie.After-slice-known10 Inv-loop μ-loop → tie.After-part Inv-loop μ-loop
-heard k = k .before .before .before .before .before .before .before .before .before .before .before .before .before
+abbrev heard : tie.After-slice-known6 Inv-loop μ-loop → tie.After-part Inv-loop μ-loop
+heard k = k .before .before .before .before .before .before .before .before .before
 
 new-requires : tie.Need-new-requires Inv-loop μ-loop
 new-requires c κs = search needs
 
 loop-holds : tie.Need-loop-holds Inv-loop μ-loop
 loop-holds c =
-    let s = c .before .before .before .before .before .before .before .before in
-    (left-start _ _ _ _ _ _ _ (s .pre .0) (c .new .ensures) refl, s .pre .1, s .pre .2, refl, refl)
+    let s = c .before .before .before .before .before .before in
+    (left-start _ _ _ _ _ _ _ (s .pre .0) (c .new .ensures) refl, s .pre .1, refl, refl)
 
 step-requires : tie.Need-step-requires Inv-loop μ-loop
 step-requires c κs = search needs
@@ -69,12 +73,6 @@ same-length-2 c = search needs
 
 same-length-3 : tie.Need-same-length-3 Inv-loop μ-loop
 same-length-3 c = search needs
-
-same-length-4 : tie.Need-same-length-4 Inv-loop μ-loop
-same-length-4 c = search needs
-
-same-length-5 : tie.Need-same-length-5 Inv-loop μ-loop
-same-length-5 c = search needs
 
 returns : tie.Need-returns Inv-loop μ-loop
 returns c = absurd (left-some (c .before .before .before .before .before .loop .inv .0) (c .before .before .before .if1 .taken) (c .before .before .step .result) (c .before .before .step .ensures) (c .before .match .keys2))
@@ -101,34 +99,28 @@ part-part-end-2 : tie.Need-part-part-end-2 Inv-loop μ-loop
 part-part-end-2 c = let w = here (c .before) .1 in omega (arith, w .ordered, w .inside)
 
 part-requires : tie.Need-part-requires Inv-loop μ-loop
-part-requires c κs = let k = c .before .before .before .before .before .before in (here k .1 .counted, turn k .loop .inv .1, turn k .loop .inv .2)
+part-requires c κs = let k = c .before .before .before .before in (here k .1 .counted, turn k .loop .inv .1)
 
 add-part-requires : tie.Need-add-part-requires Inv-loop μ-loop
-add-part-requires c κs = (c .before .before .before .before .before .before .before .before .before .before .part .ensures .0 .inside, c .before .before .before .before .before .before .before .before .before .before .before .before .before .before .before .before .before .before .before .before .before .before .before .loop .inv .0 .inside)
+add-part-requires c κs = let p = c .before .before .before .before .before .before in (p .part .ensures .inside, turn (p .before .before .before .before .before) .loop .inv .0 .inside)
 
 enum-told : tie.Need-enum-told Inv-loop μ-loop
 enum-told c = search needs
 
+same-length-4 : tie.Need-same-length-4 Inv-loop μ-loop
+same-length-4 c = let k = c .before .before in omega (arith, k .before .buffer .given, turn (found k) .loop .inv .2)
+
+same-length-5 : tie.Need-same-length-5 Inv-loop μ-loop
+same-length-5 c = let k = c .before .before in heard k .part .ensures .room ∙ sym (start (turn (found k)) .pre .1)
+
 same-length-6 : tie.Need-same-length-6 Inv-loop μ-loop
-same-length-6 c = let k = c .before .before in omega (arith, k .before .buffer .given, turn (found k) .loop .inv .3)
-
-same-length-7 : tie.Need-same-length-7 Inv-loop μ-loop
-same-length-7 c = let k = c .before .before in heard k .part .ensures .1 .0 ∙ sym (start (turn (found k)) .pre .1 .0)
-
-same-length-8 : tie.Need-same-length-8 Inv-loop μ-loop
-same-length-8 c = let k = c .before .before in heard k .part .ensures .1 .1 ∙ sym (start (turn (found k)) .pre .1 .1)
-
-same-length-9 : tie.Need-same-length-9 Inv-loop μ-loop
-same-length-9 c = let k = c .before .before in omega (arith, k .before .before .before .before .before .before .before .before .store .given, turn (found k) .loop .inv .4)
-
-same-length-10 : tie.Need-same-length-10 Inv-loop μ-loop
-same-length-10 c = let k = c .before .before in heard k .part .ensures .0 .room ∙ sym (start (turn (found k)) .pre .2)
+same-length-6 c = let k = c .before .before in omega (arith, k .before .before .before .before .before .before .store .given, turn (found k) .loop .inv .3)
 
 returns-2 : tie.Need-returns-2 Inv-loop μ-loop
 returns-2 c =
     let k = c .before .before in
     let (q, w) = here (found k) in
-    left-refused (turn (found k) .loop .inv .0) q _ _ _ _ _ w _ _ _ (heard k .part .ensures .0) _ _ (k .before .before .add-part .ensures) _ (c .enum-told .given .1)
+    left-refused {whole = whole (start (turn (found k)))} (turn (found k) .loop .inv .0) q _ _ _ _ _ w _ _ _ (heard k .part .ensures) _ _ (k .before .before .add-part .ensures) _ (c .enum-told .given .1)
 
 enum-told-2 : tie.Need-enum-told-2 Inv-loop μ-loop
 enum-told-2 c = search needs
@@ -140,27 +132,20 @@ loop-again : tie.Need-loop-again Inv-loop μ-loop
 loop-again c =
     let k = c .before .before .before in
     let (q, w) = here (found k) in (
-      left-next (turn (found k) .loop .inv .0) q _ _ _ _ _ w _ _ _ (heard k .part .ensures .0) _ _ (k .before .before .add-part .ensures) (c .before .enum-told2 .given .1),
-      heard k .part .ensures .1,
-      heard k .part .ensures .0 .room,
-      omega (arith, k .before .buffer .given, turn (found k) .loop .inv .3),
-      omega (arith, k .before .before .before .before .before .before .before .before .store .given, turn (found k) .loop .inv .4),
+      left-next {whole = whole (start (turn (found k)))} (turn (found k) .loop .inv .0) q _ _ _ _ _ w _ _ _ (heard k .part .ensures) _ _ (k .before .before .add-part .ensures) (c .before .enum-told2 .given .1),
+      heard k .part .ensures .room,
+      omega (arith, k .before .buffer .given, turn (found k) .loop .inv .2),
+      omega (arith, k .before .before .before .before .before .before .store .given, turn (found k) .loop .inv .3),
     )
 
-same-length-11 : tie.Need-same-length-11 Inv-loop μ-loop
-same-length-11 c = search needs
+same-length-7 : tie.Need-same-length-7 Inv-loop μ-loop
+same-length-7 c = search needs
 
-same-length-12 : tie.Need-same-length-12 Inv-loop μ-loop
-same-length-12 c = search needs
+same-length-8 : tie.Need-same-length-8 Inv-loop μ-loop
+same-length-8 c = search needs
 
-same-length-13 : tie.Need-same-length-13 Inv-loop μ-loop
-same-length-13 c = search needs
-
-same-length-14 : tie.Need-same-length-14 Inv-loop μ-loop
-same-length-14 c = search needs
-
-same-length-15 : tie.Need-same-length-15 Inv-loop μ-loop
-same-length-15 c = search needs
+same-length-9 : tie.Need-same-length-9 Inv-loop μ-loop
+same-length-9 c = search needs
 
 returns-3 : tie.Need-returns-3 Inv-loop μ-loop
 returns-3 c = left-end (c .before .before .loop .inv .0) (c .if1 .left)
@@ -179,8 +164,6 @@ ask-all-spec =
     same-length
     same-length-2
     same-length-3
-    same-length-4
-    same-length-5
     returns
     add-pids-end
     sub-part
@@ -192,18 +175,14 @@ ask-all-spec =
     part-requires
     add-part-requires
     enum-told
+    same-length-4
+    same-length-5
     same-length-6
-    same-length-7
-    same-length-8
-    same-length-9
-    same-length-10
     returns-2
     enum-told-2
     loop-less
     loop-again
-    same-length-11
-    same-length-12
-    same-length-13
-    same-length-14
-    same-length-15
+    same-length-7
+    same-length-8
+    same-length-9
     returns-3)

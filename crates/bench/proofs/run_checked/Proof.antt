@@ -11,9 +11,6 @@ slice-aggregate-initialise c = search needs
 slice-aggregate-initialise-2 : tie.Need-slice-aggregate-initialise-2
 slice-aggregate-initialise-2 c = search needs
 
-slice-aggregate-initialise-3 : tie.Need-slice-aggregate-initialise-3
-slice-aggregate-initialise-3 c = search needs
-
 initialise-requires : tie.Need-initialise-requires
 initialise-requires c κs = search needs
 
@@ -26,9 +23,9 @@ refused-requires c κs = search needs
 returns : tie.Need-returns
 returns c =
     let n = c .before .before in
-    let i = n .before .before .before .before in
-    let s = i .before .before .before .before .before .before .before in
-    begin-refused (s .args .repeat) (s .args .lengths .now) (s .args .script .now) (s .args .buffer .now) (s .pre) (i .initialise .result) _ _ _ (i .initialise .ensures)
+    let i = n .before .before .before in
+    let s = i .before .before .before .before .before .before in
+    begin-refused (s .args .repeat) (s .args .lengths .now) (s .args .script .now) (s .args .buffer .now) (s .pre) (i .initialise .result) _ _ (i .initialise .ensures)
     (n .piece-number .result) (c .refused .result) (n .piece-number .ensures) (c .before .if1 .taken) (c .refused .ensures)
 
 slice-aggregate-ask-all : tie.Need-slice-aggregate-ask-all
@@ -37,28 +34,20 @@ slice-aggregate-ask-all c = search needs
 slice-aggregate-ask-all-2 : tie.Need-slice-aggregate-ask-all-2
 slice-aggregate-ask-all-2 c = search needs
 
-slice-aggregate-ask-all-3 : tie.Need-slice-aggregate-ask-all-3
-slice-aggregate-ask-all-3 c = search needs
-
-slice-aggregate-ask-all-4 : tie.Need-slice-aggregate-ask-all-4
-slice-aggregate-ask-all-4 c = search needs
-
 ask-all-requires : tie.Need-ask-all-requires
-ask-all-requires c κs =
-    let i = c .before .before .before .before .before .before .before .before .before .before .before in
-    (i .before .before .before .before .before .before .before .pre, i .initialise .ensures .room, search needs)
+ask-all-requires c κs = let i = c .before .before .before .before .before .before .before .before in (i .before .before .before .before .before .before .pre, i .initialise .ensures .room)
 
 same-length : tie.Need-same-length
 same-length c = search needs
 
 returns-2 : tie.Need-returns-2
 returns-2 c =
-    let a = c .before .before .before .before .before .before in
-    let t = a .before .before .before .before .before .before .before in
+    let a = c .before .before .before .before in
+    let t = a .before .before .before .before .before in
     let n = t .before in
-    let i = n .before .before .before .before in
-    let s = i .before .before .before .before .before .before .before in
-    begin-asks (s .args .repeat) (s .args .lengths .now) (s .args .script .now) (s .args .buffer .now) (s .pre) (i .initialise .result) _ _ _ (i .initialise .ensures)
+    let i = n .before .before .before in
+    let s = i .before .before .before .before .before .before in
+    begin-asks (s .args .repeat) (s .args .lengths .now) (s .args .script .now) (s .args .buffer .now) (s .pre) (i .initialise .result) _ _ (i .initialise .ensures)
     (a .ask-all .result) _ (omega (arith, n .piece-number .ensures, t .if1 .left)) (a .ask-all .ensures)
 
 pub run-checked-spec : {M : Type 1} → statement M
@@ -67,15 +56,12 @@ run-checked-spec =
     (tie.spec
     slice-aggregate-initialise
     slice-aggregate-initialise-2
-    slice-aggregate-initialise-3
     initialise-requires
     piece-number-requires
     refused-requires
     returns
     slice-aggregate-ask-all
     slice-aggregate-ask-all-2
-    slice-aggregate-ask-all-3
-    slice-aggregate-ask-all-4
     ask-all-requires
     same-length
     returns-2)

@@ -13,10 +13,16 @@ run-requires : tie.Need-run-requires
 run-requires c κs = search needs
 
 slice-reshare-prefix-put-parts : tie.Need-slice-reshare-prefix-put-parts
-slice-reshare-prefix-put-parts c = run-inside (c .before .before .before .before .before .before .before .before .before .args .script .now) (c .before .before .before .before .before .before .before .before .before .args .buffer .now) _ (c .before .before .before .run .result) (c .before .before .before .run .ensures)
+slice-reshare-prefix-put-parts c =
+    let k = c .before .before .before in
+    let a = k .before .before .before .before .before .before .args in
+    run-inside _ _ (a .script .now) (a .buffer .now) _ (k .run .result) (k .run .ensures)
 
 slice-aggregate-put-parts : tie.Need-slice-aggregate-put-parts
-slice-aggregate-put-parts c = sym (length-take-le _ _ (run-inside (c .before .before .before .before .before .before .before .before .before .before .args .script .now) (c .before .before .before .before .before .before .before .before .before .before .args .buffer .now) _ (c .before .before .before .before .run .result) (c .before .before .before .before .run .ensures)))
+slice-aggregate-put-parts c =
+    let k = c .before .before .before .before in
+    let a = k .before .before .before .before .before .before .args in
+    sym (length-take-le _ _ (run-inside _ _ (a .script .now) (a .buffer .now) _ (k .run .result) (k .run .ensures)))
 
 put-parts-requires : tie.Need-put-parts-requires
 put-parts-requires c κs = search needs
@@ -37,7 +43,13 @@ same-length-2 : tie.Need-same-length-2
 same-length-2 c = search needs
 
 returns : tie.Need-returns
-returns c = (text-complete (c .before .before .before .before .before .before .before .before .before .before .before .before .before .before .before .args .script .now) (c .before .before .before .before .before .before .before .before .before .before .before .before .before .before .before .args .buffer .now) _ (c .before .before .before .before .before .before .before .before .before .run .result) (c .before .before .before .before .before .before .before .before .before .run .ensures) (c .enum-told .given .1) (c .before .before .before .before .put-parts .ensures), buffer-left (c .before .before .before .before .before .before .before .before .before .before .before .before .before .before .before .args .script .now) (c .before .before .before .before .before .before .before .before .before .before .before .before .before .before .before .args .buffer .now) _ (c .before .before .before .before .before .before .before .before .before .run .result) (c .before .before .before .before .before .before .before .before .before .run .ensures))
+returns c =
+    let p = c .before .before .before .before in
+    let k = p .before .before .before .before .before in
+    let a = k .before .before .before .before .before .before .args in (
+      text-complete (a .script .now) (a .buffer .now) _ (k .run .result) (k .run .ensures) (p .put-parts .ensures) (c .enum-told .given .1),
+      buffer-left (a .script .now) (a .buffer .now) _ (k .run .result) (k .run .ensures),
+    )
 
 same-length-3 : tie.Need-same-length-3
 same-length-3 c = search needs
@@ -46,7 +58,13 @@ same-length-4 : tie.Need-same-length-4
 same-length-4 c = search needs
 
 returns-2 : tie.Need-returns-2
-returns-2 c = (text-refused (c .before .before .before .before .before .before .before .before .before .before .before .before .before .before .before .before .before .before .before .before .args .script .now) (c .before .before .before .before .before .before .before .before .before .before .before .before .before .before .before .before .before .before .before .before .args .buffer .now) _ (c .before .before .before .before .before .before .before .before .before .before .before .before .before .before .run .result) (c .before .before .before .before .before .before .before .before .before .before .before .before .before .before .run .ensures) (c .before .before .before .before .before .answer .given .1) (c .before .before .before .before .before .before .before .before .before .put-parts .ensures) (c .before .before .put-refused .ensures), buffer-left (c .before .before .before .before .before .before .before .before .before .before .before .before .before .before .before .before .before .before .before .before .args .script .now) (c .before .before .before .before .before .before .before .before .before .before .before .before .before .before .before .before .before .before .before .before .args .buffer .now) _ (c .before .before .before .before .before .before .before .before .before .before .before .before .before .before .run .result) (c .before .before .before .before .before .before .before .before .before .before .before .before .before .before .run .ensures))
+returns-2 c =
+    let p = c .before .before .before .before .before .before .before .before .before in
+    let k = p .before .before .before .before .before in
+    let a = k .before .before .before .before .before .before .args in (
+      text-refused (a .script .now) (a .buffer .now) _ (k .run .result) (k .run .ensures) (p .put-parts .ensures) (c .before .before .before .before .before .answer .given .1) (c .before .before .put-refused .ensures),
+      buffer-left (a .script .now) (a .buffer .now) _ (k .run .result) (k .run .ensures),
+    )
 
 pub hire-text-spec : {M : Type 1} → statement M
 hire-text-spec =

@@ -16,14 +16,8 @@ same-length c = search needs
 same-length-2 : tie.Need-same-length-2
 same-length-2 c = search needs
 
-same-length-3 : tie.Need-same-length-3
-same-length-3 c = search needs
-
-same-length-4 : tie.Need-same-length-4
-same-length-4 c = search needs
-
 returns : tie.Need-returns
-returns c = (part-does (c .before .before .before .before .before .before .before .before .before .before .before .ask .ensures) (c .before .before .finish .ensures _), c .before .before .before .before .before .before .before .before .before .before .before .ask .ensures .room)
+returns c = part-does (c .before .before .before .before .before .before .before .before .before .ask .ensures) (c .before .before .finish .ensures _)
 
 pub part-spec : {M : Type 1} → statement M
 part-spec =
@@ -33,6 +27,4 @@ part-spec =
     finish-requires
     same-length
     same-length-2
-    same-length-3
-    same-length-4
     returns)

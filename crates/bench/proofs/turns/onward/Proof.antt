@@ -11,12 +11,12 @@ use Rattle.bench.proofs.turns.onward.Statement.{statement}
 use Rattle.bench.proofs.turns.onward.Tie as tie
 
 abbrev Inv-loop : tie.InvT-loop
-Inv-loop n list lengths out₀ reply₀ store₀ at₀ left₀ out reply store at left =
+Inv-loop at₀ n list lengths out₀ reply₀ store₀ left₀ at out reply store left =
     Held (onward n (turnOf at₀ out₀ store₀ lengths) list) (onward left (turnOf at out store lengths) list) ×
     (at .written ≤ length out) × Room out reply × (length store ≡ length store₀)
 
 abbrev μ-loop : tie.MeasureT-loop
-μ-loop n list lengths out₀ reply₀ store₀ at₀ left₀ out reply store at left = left
+μ-loop at₀ n list lengths out₀ reply₀ store₀ left₀ at out reply store left = left
 
 loop-holds : tie.Need-loop-holds Inv-loop μ-loop
 loop-holds c = (held-same _, search needs, c .before .before .before .before .before .pre .1, search needs)

@@ -5,36 +5,32 @@ use native.Mathlib.Omega.{arith}
 use mathlib.Core.List.{[]}
 use lib.ListN.{length, take}
 use lib.Seq.{length-take-le}
-use borrow.Author.Needs.{needs}
 use Rattle.server_session.specs.Session.{session}
 use Rattle.bench.proofs.TurnLaws.{reply-inside}
 use Rattle.bench.proofs.InitLaws.{init-inside, reset-does}
+use borrow.Author.Needs.{needs}
 use Rattle.bench.proofs.turns.reset.Statement.{statement}
 use Rattle.bench.proofs.turns.reset.Tie as tie
 
 -- the client's ATZ is inside its buffer
-started : (k : tie.After-init) → k .init .result .written ≤ length (k .init .last .1 .0)
+started : (k : tie.After-send-reset) → k .send-reset .result .written ≤ length (k .send-reset .last .1 .0)
 started k =
-    let n = k .before .before in
-    let s = n .before .before .before .before in
-    init-inside (s .args .repeat) (s .args .out .now) _ (n .new .result) (k .init .result) (s .pre .0 .0) (n .new .ensures) (k .init .ensures)
+    let s = k .before .before .before .before .before in
+    init-inside (s .args .repeat) (s .args .out .now) _ (k .send-reset .result) (s .pre .0 .0) (k .send-reset .ensures)
 
 -- what the server sent is inside its own
 sent : (k : tie.After-exchange) → k .exchange .result .written ≤ length (k .exchange .last .1 .1 .1 .0)
 sent k =
     let n = k .before .before .before .before in
     let i = n .before .before .before .before in
-    let s = i .before .before .before .before .before .before in
-    reply-inside (session (n .new2 .result)) (take (i .init .result .written) (i .init .last .1 .0)) [] (s .args .reply .now) _ (k .exchange .result) (k .exchange .ensures)
+    let s = i .before .before .before .before .before in
+    reply-inside (session (n .new .result)) (take (i .send-reset .result .written) (i .send-reset .last .1 .0)) [] (s .args .reply .now) _ (k .exchange .result) (k .exchange .ensures)
+
+send-reset-requires : tie.Need-send-reset-requires
+send-reset-requires c κs = search needs
 
 new-requires : tie.Need-new-requires
 new-requires c κs = search needs
-
-init-requires : tie.Need-init-requires
-init-requires c κs = search needs
-
-new-requires-2 : tie.Need-new-requires-2
-new-requires-2 c κs = search needs
 
 slice-reshare-prefix-exchange : tie.Need-slice-reshare-prefix-exchange
 slice-reshare-prefix-exchange c = started (c .before .before .before .before)
@@ -48,29 +44,14 @@ slice-aggregate-exchange-2 c = search needs
 exchange-requires : tie.Need-exchange-requires
 exchange-requires c κs = search needs
 
-slice-reshare-prefix-piece : tie.Need-slice-reshare-prefix-piece
-slice-reshare-prefix-piece c = sent (c .before .before .before)
+slice-reshare-prefix-one-piece : tie.Need-slice-reshare-prefix-one-piece
+slice-reshare-prefix-one-piece c = sent (c .before .before .before)
 
-slice-aggregate-piece : tie.Need-slice-aggregate-piece
-slice-aggregate-piece c = sym (length-take-le _ _ (sent (c .before .before .before .before)))
+slice-aggregate-one-piece : tie.Need-slice-aggregate-one-piece
+slice-aggregate-one-piece c = sym (length-take-le _ _ (sent (c .before .before .before .before)))
 
-piece-requires : tie.Need-piece-requires
-piece-requires c κs = search needs
-
-returns : tie.Need-returns
-returns c =
-    let p = c .before .before .before .before .before in
-    let x = p .before .before .before .before .before .before .before in
-    let m = x .before .before .before .before in
-    let i = m .before .before .before .before in
-    let n = i .before .before in
-    let s = n .before .before .before .before in
-    reset-does (s .args .repeat) (s .args .out .now) _ (n .new .result) (i .init .result) (s .pre .0 .0) (n .new .ensures) (i .init .ensures) (s .args .reply .now) _
-    (s .args .store .now) _ _ (m .new2 .result) (x .exchange .result) (p .piece .result) (s .pre .0 .1) (s .pre .1) (m .new2 .ensures) (x .exchange .ensures)
-    (p .piece .ensures)
-
-same-length : tie.Need-same-length
-same-length c = omega (arith, returns c [] .room .0, c .before .before .before .before .before .before .before .before .before .before .before .before .before .before .before .before .before .before .before .before .before .before .before .before .before .before .pre .0 .0)
+one-piece-requires : tie.Need-one-piece-requires
+one-piece-requires c κs = search needs
 
 same-length-2 : tie.Need-same-length-2
 same-length-2 c = search needs
@@ -78,20 +59,32 @@ same-length-2 c = search needs
 same-length-3 : tie.Need-same-length-3
 same-length-3 c = search needs
 
+returns : tie.Need-returns
+returns c =
+    let p = c .before .before .before .before in
+    let x = p .before .before .before .before .before .before .before in
+    let n = x .before .before .before .before in
+    let i = n .before .before .before .before in
+    let s = i .before .before .before .before .before in
+    reset-does (s .args .repeat) (s .args .out .now) _ (i .send-reset .result) (s .pre .0 .0) (i .send-reset .ensures) (s .args .reply .now) _ (s .args .store .now) _ _
+    (n .new .result) (x .exchange .result) (p .one-piece .result) (s .pre .0 .1) (s .pre .1) (n .new .ensures) (x .exchange .ensures) (p .one-piece .ensures)
+
+same-length : tie.Need-same-length
+same-length c = omega (arith, returns c [] .room .0, c .before .before .before .before .before .before .before .before .before .before .before .before .before .before .before .before .before .before .before .before .before .before .before .before .pre .0 .0)
+
 pub reset-spec : {M : Type 1} → statement M
 reset-spec =
     tie.close
     (tie.spec
+    send-reset-requires
     new-requires
-    init-requires
-    new-requires-2
     slice-reshare-prefix-exchange
     slice-aggregate-exchange
     slice-aggregate-exchange-2
     exchange-requires
-    slice-reshare-prefix-piece
-    slice-aggregate-piece
-    piece-requires
+    slice-reshare-prefix-one-piece
+    slice-aggregate-one-piece
+    one-piece-requires
     same-length
     same-length-2
     same-length-3

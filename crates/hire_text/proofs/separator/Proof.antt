@@ -1,8 +1,8 @@
--- `report::separator` meets its contract.
+-- `hire_text::separator` meets its contract.
 use mathlib.Core.Path.{sym}
-use Rattle.report.proofs.LineLaws.{separator-more, separator-end}
-use Rattle.report.proofs.separator.Statement.{statement}
-use Rattle.report.proofs.separator.Tie as tie
+use Rattle.hire_text.proofs.LineLaws.{separator-more, separator-end}
+use Rattle.hire_text.proofs.separator.Statement.{statement}
+use Rattle.hire_text.proofs.separator.Tie as tie
 
 returns : tie.Need-returns
 returns c = sym (separator-more _ _ (c .if1 .taken))

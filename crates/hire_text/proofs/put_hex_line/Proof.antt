@@ -1,4 +1,4 @@
--- `report::put_hex_line` meets its contract. The invariant: the bytes that are left, written from here, give the final buffer.
+-- `hire_text::put_hex_line` meets its contract. The invariant: the bytes that are left, written from here, give the final buffer.
 use mathlib.Core.Path.{_≡_, refl, sym, _∙_}
 use Prim.Native.Nat.{_+_, _-_, _≤_, min}
 use native.Mathlib.Omega.{arith}
@@ -7,10 +7,10 @@ use lib.ListN.{length, drop}
 use borrow.Author.Needs.{needs}
 use Rattle.wire.proofs.PutLaws.{put-length}
 use Rattle.wire.specs.Put.{Put}
-use Rattle.report.specs.Report.{hexLine}
-use Rattle.report.proofs.LineLaws.{line-next, line-end}
-use Rattle.report.proofs.put_hex_line.Statement.{statement}
-use Rattle.report.proofs.put_hex_line.Tie as tie
+use Rattle.hire_text.specs.Hire.{hexLine}
+use Rattle.hire_text.proofs.LineLaws.{line-next, line-end}
+use Rattle.hire_text.proofs.put_hex_line.Statement.{statement}
+use Rattle.hire_text.proofs.put_hex_line.Tie as tie
 
 abbrev Inv-loop : tie.InvT-loop
 Inv-loop out₀ at bytes at₀ i₀ out at' i = (i ≤ length bytes) × (length out ≡ length out₀) × Put out at' (hexLine (drop i bytes)) (at + min (length (hexLine bytes)) (length out₀ - at)) (sets out₀ at (hexLine bytes))

@@ -1,16 +1,16 @@
--- `report::part_end` meets its contract. The invariant: the values that are left, read from here, lead to the end of the part.
+-- `hire_text::part_end` meets its contract. The invariant: the values that are left, read from here, lead to the end of the part.
 use borrow.Author.Needs.{needs}
 use Rattle.group.proofs.AtLaws.{number-at, none-at}
 use Rattle.value.proofs.StepLaws.{step-value, step-end, step-none}
-use Rattle.report.proofs.PartLaws.{ValuesLeft, no-number, left-start, left-value, left-none, left-past, left-end}
-use Rattle.report.proofs.part_end.Statement.{statement}
-use Rattle.report.proofs.part_end.Tie as tie
+use Rattle.hire_text.proofs.PartLaws.{ValuesLeft, no-number, left-start, left-value, left-none, left-past, left-end}
+use Rattle.hire_text.proofs.part_end.Statement.{statement}
+use Rattle.hire_text.proofs.part_end.Tie as tie
 
 abbrev Inv-loop : tie.InvT-loop
-Inv-loop parts at value next left₀ cursor₀ left cursor = ValuesLeft parts at (cursor .at) left
+Inv-loop bytes at value next left₀ cursor₀ left cursor = ValuesLeft bytes at (cursor .at) left
 
 abbrev μ-loop : tie.MeasureT-loop
-μ-loop parts at value next left₀ cursor₀ left cursor = left
+μ-loop bytes at value next left₀ cursor₀ left cursor = left
 
 read-group-requires : tie.Need-read-group-requires Inv-loop μ-loop
 read-group-requires c κs = search needs

@@ -1,9 +1,9 @@
--- `report::put_refused` meets its contract: the word, the number, LF.
+-- `hire_text::put_refused` meets its contract: the word, the number, LF.
 use borrow.Author.Needs.{needs}
 use Rattle.wire.proofs.PutLaws.{put-then}
-use Rattle.report.specs.Report.{refusedLine}
-use Rattle.report.proofs.put_refused.Statement.{statement}
-use Rattle.report.proofs.put_refused.Tie as tie
+use Rattle.hire_text.specs.Hire.{refusedLine}
+use Rattle.hire_text.proofs.put_refused.Statement.{statement}
+use Rattle.hire_text.proofs.put_refused.Tie as tie
 
 slice-aggregate-put : tie.Need-slice-aggregate-put
 slice-aggregate-put c = search needs

@@ -1,0 +1,127 @@
+-- The parts that stand in a run's record fit its buffer, and each is read back as one part. So the record's bytes tell the parts.
+use mathlib.Core.Bool.{Bool}
+use mathlib.Core.List.{List, [], _∷_, _++_}
+use Prim.Native.Nat.{ℕ, _-_, _≤_}
+use native.Mathlib.Omega.{arith}
+use lib.Dec.{ltb}
+use lib.ListN.{length, length-append}
+use borrow.Author.Tests.{ltb-false}
+use Rattle.wire.specs.Answer.{Answer, result, refused}
+use Rattle.wire.specs.Call.{Said}
+use Rattle.wire.specs.Text.{high}
+use Rattle.wire.proofs.Cases.{by-test}
+use Rattle.group.specs.Group.{groupBytes}
+use Rattle.line_list.specs.Lines.{linesBytes}
+use Rattle.value.specs.Values.{Value, valuesBytes}
+use Rattle.value.proofs.RecordLaws.{ValuesFit, part-back}
+use Rattle.reply_lines.specs.Decode.{replyLines}
+use Rattle.reply_values.specs.Values.{valuesOf, answerOrder}
+use Rattle.reply_values.specs.Learn.{lengthsAfter}
+use Rattle.reply_values.proofs.WalkLaws.{values-fit}
+use Rattle.reply_values.proofs.ReadLaws.{reply-known}
+use Rattle.client_session.specs.Session.{Client}
+use Rattle.client_session.specs.Piece.{Progress, replyIn}
+use Rattle.client_session.specs.Finish.{isComplete, finishReply, finishSays}
+use Rattle.script.specs.Script.{Query, script}
+use Rattle.bench.specs.Run.{valuesRoom, Bench, Turn, initialised, startSays, asking, partOf, finishing, part, Run, sizeOf, standing, asked, begun, runRead, runSays, joined}
+use Rattle.hire_text.specs.Steps.{IsPart, AreParts}
+
+-- ---- a query's part, from any sessions
+
+-- what a finish says is a part
+abbrev SaysPart : Said Client ℕ → Answer ℕ → Type 0
+SaysPart f (refused n) = Unit {0}
+SaysPart f (result n) = IsPart (groupBytes n ++ f .text)
+
+-- the order of an answer keeps the number of values, and each can be read back
+ordered-part : (vs : List Value) → ValuesFit vs → IsPart (groupBytes (length vs) ++ valuesBytes (answerOrder vs))
+unfolding answerOrder
+ordered-part vs h = λ rest. (vs, part-back vs rest h)
+
+-- an id has three digits, so ECU+1 is at most 4,096
+reply-part : (room : ℕ) (c : Client) (reply : List ℕ) → SaysPart (finishReply room c reply) (finishReply room c reply .answer)
+reply-part room c reply =
+    let ls = replyLines (c .known .framing) reply in
+    let lengths = lengthsAfter (c .query .several) (c .query .pids) (c .known .lengths) ls in
+    let vs = valuesOf lengths ls in
+    by-test (ltb room (length (valuesBytes (answerOrder vs))))
+    (λ e. rw e tt)
+    (λ e. rw e (ordered-part vs (values-fit lengths ls (reply-known (c .known .framing) reply))))
+
+finish-part : (room : ℕ) (c : Client) (store : List ℕ) → SaysPart (finishSays room c store) (finishSays room c store .answer)
+unfolding finishSays
+finish-part room c store =
+    by-test (isComplete (c .under))
+    (λ e.
+    rw e
+    (by-test (ltb (length store) 4096)
+    (λ f. rw f tt)
+    (λ f.
+    rw f
+    (by-test (high (replyIn c store))
+    (λ g. rw g tt)
+    (λ g. rw g (reply-part room c (replyIn c store)))))))
+    (λ e. rw e tt)
+
+-- the answer of a query is a part, or a number
+abbrev AnswerPart : Answer (List ℕ) → Type 0
+AnswerPart (refused n) = Unit {0}
+AnswerPart (result bytes) = IsPart bytes
+
+part-of : (f : Said Client ℕ) (a : Answer ℕ) → SaysPart f a → AnswerPart (partOf f a)
+part-of f (refused n) h = tt
+part-of f (result n) h = h
+
+finishing-part : (t : Turn) (a : Answer Progress) → AnswerPart (finishing t a .answer)
+finishing-part t (refused n) = tt
+finishing-part t (result p) =
+    let f = finishSays valuesRoom (t .bench .client) (t .bench .store) in
+    part-of f (f .answer) (finish-part valuesRoom (t .bench .client) (t .bench .store))
+
+query-part : (b : Bench) (q : Query) → AnswerPart (part b q .answer)
+unfolding part
+query-part b q = let t = asking b (startSays (b .client) (q .pids) (q .count)) (linesBytes (q .lines)) in finishing-part t (t .answer)
+
+-- ---- the parts of a run
+
+record Stand (room : ℕ) (parts : List (List ℕ)) : Type 0 where
+  fits : length (joined parts) ≤ room
+  are : AreParts parts
+
+none-stands : (room : ℕ) → Stand room []
+none-stands room = record { fits = omega arith; are = tt }
+
+one-stands : (room : ℕ) (a : Answer (List ℕ)) (handed : List (List ℕ)) (others : Run) → AnswerPart a → Stand (room - sizeOf a) (others .parts) →
+    Stand room (standing room a handed others .parts)
+one-stands room (refused n) handed others h s = none-stands room
+one-stands room (result bytes) handed others h s =
+    by-test (ltb room (length bytes))
+    (λ e. rw e (none-stands room))
+    (λ e.
+    let few = ltb-false room (length bytes) e in
+    rw e (record { fits = omega (arith, length-append bytes (joined (others .parts)), s .fits); are = (h, s .are) }))
+
+asked-stand : (room : ℕ) (b : Bench) (qs : List Query) → Stand room (asked room b qs .parts)
+asked-stand room b [] = none-stands room
+asked-stand room b (q ∷ qs) =
+    let p = part b q in
+    let others = asked (room - sizeOf (p .answer)) (p .bench) qs in
+    one-stands room (p .answer) (p .handed) others (query-part b q) (asked-stand (room - sizeOf (p .answer)) (p .bench) qs)
+
+begun-stand : (room : ℕ) (t : Turn) (a : Answer Progress) (qs : List Query) → Stand room (begun room t a qs .parts)
+begun-stand room t (refused n) qs = none-stands room
+begun-stand room t (result p) qs = asked-stand room (t .bench) qs
+
+read-stand : (repeat : Bool) (ks : List ℕ) (room : ℕ) (a : Answer (List Query)) → Stand room (runRead repeat ks room a .parts)
+read-stand repeat ks room (refused n) = none-stands room
+read-stand repeat ks room (result qs) = begun-stand room (initialised repeat ks) (initialised repeat ks .answer) qs
+
+module _ (repeat : Bool) (ks : List ℕ) (room : ℕ) (s : List ℕ) where
+  pub run-fits : length (joined (runSays repeat ks room s .parts)) ≤ room
+  unfolding runSays
+  run-fits = read-stand repeat ks room (script s) .fits
+
+  -- every part of a run, on every script, is read back as one part
+  pub run-parts : AreParts (runSays repeat ks room s .parts)
+  unfolding runSays
+  run-parts = read-stand repeat ks room (script s) .are

@@ -1,4 +1,0 @@
-pub mod LineLaws
-pub mod PartLaws
-pub mod ReportLaws
-pub mod Worked
