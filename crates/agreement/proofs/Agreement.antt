@@ -7,6 +7,7 @@ use native.Mathlib.Omega.{arith}
 use lib.ListN.{length, take, length-take}
 use lib.Seq.{sets, take-all}
 use Rattle.wire.specs.Put.{Put}
+use Rattle.wire.specs.Text.{joined}
 use Rattle.wire.proofs.PutLaws.{put-front}
 use Rattle.wire.proofs.All.{all-from}
 use Rattle.value.specs.Values.{Value, recordBytes, readRecord}
@@ -16,7 +17,7 @@ use Rattle.reply_values.specs.Values.{answerOrder}
 use Rattle.script.specs.Script.{Query}
 use Rattle.script.specs.Written.{AllInLimits}
 use Rattle.script.proofs.ScriptLaws.{script-limits}
-use Rattle.bench.specs.Run.{Run, Recorded, runAnswer, joined}
+use Rattle.bench.specs.Run.{Run, Recorded, runAnswer}
 use Rattle.agreement.specs.Vehicle.{given}
 use Rattle.agreement.specs.Demand.{givens, commands, fitting, partsIn, SameFirst, Drive, hireRecord, partsStanding, comesTo, EveryFits, Holds, Agreement}
 use Rattle.agreement.proofs.Finished.{answer-reordered}

@@ -10,7 +10,7 @@ use lib.Seq.{sets}
 use borrow.Author.Tests.{ltb-true, ltb-false}
 use Rattle.wire.specs.Answer.{refused}
 use Rattle.wire.specs.Call.{Said}
-use Rattle.wire.specs.Text.{ascii, has, high}
+use Rattle.wire.specs.Text.{ascii, has, high, joined}
 use Rattle.wire.proofs.Cases.{by-test, or-none}
 use Rattle.wire.proofs.TextLaws.{has-append, high-append}
 use Rattle.hex.specs.Digits.{hexDigit}
@@ -19,7 +19,7 @@ use Rattle.reply.specs.Reply.{replyText}
 use Rattle.reply.proofs.ByteLaws.{replyBody, reply-prompt, body-none, body-prompt}
 use Rattle.client_session.specs.Session.{Client, withUnder}
 use Rattle.client_session.specs.Piece.{Progress, completed, failing, replyIn, pieceSays, stored}
-use Rattle.client_session.specs.Pieces.{Fed, feedOn, fed, joined, Sized}
+use Rattle.client_session.specs.Pieces.{Fed, feedOn, fed, Sized}
 use Rattle.client_session.proofs.PieceLaws.{takes-too-much, piece-joined}
 use Rattle.client_session.proofs.StoreLaws.{store-holds, reply-in}
 use Rattle.client_session.proofs.PiecesLaws as inPieces

@@ -8,6 +8,7 @@ use lib.Dec.{eqb, ltb}
 use lib.ListN.{length, take, length-append}
 use borrow.Author.Tests.{ltb-false}
 use Rattle.wire.specs.Answer.{result}
+use Rattle.wire.specs.Text.{joined}
 use Rattle.wire.proofs.Cases.{by-test}
 use Rattle.pid.specs.J1979.{j1979}
 use Rattle.line_list.specs.Lines.{Line, AllFit}
@@ -17,7 +18,7 @@ use Rattle.value.proofs.RecordLaws.{ValuesFit}
 use Rattle.reply.specs.Reply.{replyText}
 use Rattle.reply_values.specs.Values.{answerOrder}
 use Rattle.script.specs.Script.{Query}
-use Rattle.bench.specs.Run.{Run, ended, after, joined}
+use Rattle.bench.specs.Run.{Run, ended, after}
 use Rattle.agreement.specs.Vehicle.{givenEcu, owed, takes, givenLine, given}
 use Rattle.agreement.specs.Demand.{commandOf, commands, fitting}
 use Rattle.agreement.proofs.Finished.{answer-reordered}

@@ -33,10 +33,6 @@ pub kind-ath1 : atKind (ascii "ATH1") ≡ Headers true
 unfolding atKind
 kind-ath1 = refl
 
-pub kind-ath0 : atKind (ascii "ATH0") ≡ Headers false
-unfolding atKind
-kind-ath0 = refl
-
 -- no AT command
 pub kind-other : (c : List ℕ) → begins c (ascii "AT") ≡ false → atKind c ≡ Unknown
 unfolding atKind

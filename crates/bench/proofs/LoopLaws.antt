@@ -11,6 +11,7 @@ use lib.Seq.{sets, length-sets}
 use borrow.Author.Tests.{ltb-false, lt-ltb, le-ltb}
 use Rattle.wire.specs.Answer.{Answer, result, refused}
 use Rattle.wire.specs.Put.{Put}
+use Rattle.wire.specs.Text.{joined}
 use Rattle.wire.proofs.Cases.{by-test, from-no}
 use Rattle.wire.proofs.PutLaws.{put-then, put-whole}
 use Rattle.group.specs.Group.{groupBytes}
@@ -26,7 +27,7 @@ use Rattle.bench.specs.declared.Bench as code
 use Rattle.bench.specs.declared.BenchRun.{BenchRun}
 use Rattle.bench.specs.declared.RunAnswer.the-variants.{Complete, Refused}
 use Rattle.bench.specs.declared.PartStep.{PartStep}
-use Rattle.bench.specs.Run.{Part, startSays, asking, finished, part, Run, after, sizeOf, standing, asked, runAnswer, Recorded, recorded, joined, lent}
+use Rattle.bench.specs.Run.{Part, startSays, asking, finished, part, Run, after, sizeOf, standing, asked, runAnswer, Recorded, recorded, lent}
 use Rattle.bench.specs.Steps.{benchOf, partAnswer, PartDoes, IsScript, queriesOf, queriesIn, added, lentFrom}
 
 -- what the host sees is its answer, its length and the buffer

@@ -11,6 +11,7 @@ use lib.ListN.{length, replicate}
 use lib.Seq.{sets}
 use Rattle.wire.specs.Answer.{Answer, result, refused}
 use Rattle.wire.specs.Call.{Said}
+use Rattle.wire.specs.Text.{joined}
 use Rattle.group.specs.Group.{groupBytes}
 use Rattle.line_list.specs.Lines.{linesBytes}
 use Rattle.server_session.specs.Session.{Session, freshSession}
@@ -215,11 +216,6 @@ pub record Recorded : Type 0 where
 
 abbrev pub recorded : BenchRun → List ℕ → Recorded
 recorded r out = record { answer = runAnswer (r .answer); written = r .written; out = out }
-
--- the bytes of the record: its parts one after the other
-abbrev pub joined : List (List ℕ) → List ℕ
-joined [] = []
-joined (p ∷ ps) = p ++ joined ps
 
 -- the parts stand at the front of the lent buffer, and past them it keeps what it held
 abbrev pub lent : Run → List ℕ → Recorded

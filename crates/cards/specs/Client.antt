@@ -7,7 +7,7 @@ use Prim.Native.String.{String}
 use lib.ListN.{length, replicate}
 use Rattle.wire.specs.Answer.{Answer, result, refused}
 use Rattle.wire.specs.Call.{Said, lent}
-use Rattle.wire.specs.Text.{ascii}
+use Rattle.wire.specs.Text.{ascii, joined}
 use Rattle.pid.specs.Lengths.{mode01Lengths}
 use Rattle.server_state.specs.declared.FeatureSupport.the-variants as support
 use Rattle.server_state.specs.State.{fresh, countIn, withFraming, withRepeat, withMulti}
@@ -19,7 +19,7 @@ use Rattle.client_session.specs.declared.Failure.the-variants as failure
 use Rattle.client_session.specs.Session.{Client, freshClient, withUnder}
 use Rattle.client_session.specs.Start.{initSays, commandSays, queryPidSays, queryPidsSays, startAnswer, startServed}
 use Rattle.client_session.specs.Piece.{Progress, awaited, sent, over, complete, pieceSays, failureSays, pieceAnswer, isWrite, pieceReceived, pieceLent}
-use Rattle.client_session.specs.Pieces.{fed, joined}
+use Rattle.client_session.specs.Pieces.{fed}
 use Rattle.exchange.specs.Deliver.{pieces, delivered, deliveryReceived, receiving}
 use Rattle.cards.specs.Example.{Example, example}
 

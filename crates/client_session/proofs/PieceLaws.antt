@@ -37,20 +37,12 @@ setup-end c k n h = rw (le-ltb k 4 h)
 
 -- a reply joined with a piece: each number, and none
 module _ (c : Client) (piece store : List ℕ) where
-  pub takes-closed : length piece ≡ 0 → replyTakes c piece store ≡ failing 7 c
-  unfolding replyTakes
-  takes-closed e = rw (eq-eqb (length piece) 0 e)
-
   module _ (some : length piece ≡ 0 → ⊥) where
     pub takes-too-much : 4096 < c .got + length piece → replyTakes c piece store ≡ failing 8 c
     unfolding replyTakes
     takes-too-much h = rw (ne-eqb (length piece) 0 some, lt-ltb 4096 (c .got + length piece) h)
 
     module _ (fits : c .got + length piece ≤ 4096) where
-      pub takes-high : high (replyIn c store ++ piece) ≡ true → replyTakes c piece store ≡ failing 9 c
-      unfolding replyTakes
-      takes-high e = rw (ne-eqb (length piece) 0 some, le-ltb 4096 (c .got + length piece) fits, e)
-
       pub takes-on : high (replyIn c store ++ piece) ≡ false → replyTakes c piece store ≡ progressed (c .under) c (replyIn c store ++ piece)
       unfolding replyTakes
       takes-on e = rw (ne-eqb (length piece) 0 some, le-ltb 4096 (c .got + length piece) fits, e)

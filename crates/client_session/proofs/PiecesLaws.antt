@@ -9,7 +9,7 @@ use lib.ListN.{length, take, length-append}
 use lib.Seq.{sets, length-sets}
 use Rattle.wire.specs.Call.{Said, saying}
 use Rattle.wire.specs.Put.{Put}
-use Rattle.wire.specs.Text.{has, high}
+use Rattle.wire.specs.Text.{has, high, joined}
 use Rattle.wire.proofs.Cases.{by-test, from-no, or-none}
 use Rattle.wire.proofs.PutLaws.{put-then}
 use Rattle.wire.proofs.TextLaws.{has-append, high-append}
@@ -17,7 +17,7 @@ use Rattle.client_session.specs.declared.Under.{Under}
 use Rattle.client_session.specs.declared.Under.the-variants as under
 use Rattle.client_session.specs.Session.{Client, withUnder}
 use Rattle.client_session.specs.Piece.{Progress, awaited, isAwaited, isReset, completed, replyIn, progressed, pieceSays, appended, stored}
-use Rattle.client_session.specs.Pieces.{Fed, feedOn, fed, joined, Sized}
+use Rattle.client_session.specs.Pieces.{Fed, feedOn, fed, Sized}
 use Rattle.client_session.proofs.PieceLaws.{takes-on, piece-joined}
 use Rattle.client_session.proofs.StoreLaws.{store-holds, reply-in, stored-joined, progressed-stored}
 
@@ -207,12 +207,3 @@ delivered room c store st (p ∷ ps) body w ok z n q =
 has-none : (x : ℕ) → has x [] ≡ false
 unfolding has
 has-none x = refl
-
--- the reply stands at the front of the store
-pub delivered-front : (room : ℕ) (c : Client) (store : List ℕ) (ps : List (List ℕ)) (body : List ℕ) → Awaiting room c store [] → Plainly body → Sized ps → joined ps ≡ prompted body →
-    take (length (prompted body)) (fed room c store ps .store) ≡ prompted body
-delivered-front room c store ps body w ok z q =
-    let n : length (prompted body) ≡ 0 + length (prompted body) = omega arith in
-    ap (λ (f : Fed). take (length (prompted body)) (f .store)) (delivered room c store [] ps body w ok z (has-none 62) q) ∙
-    (λ i. take (n i) (sets store (w .got i) (q i))) ∙
-    store-holds store 0 (prompted body) (omega (arith, ok .short, w .size, length-append body (62 ∷ [])))

@@ -88,11 +88,6 @@ query-repeated c q e = rw e
 pub query-in-full : (c : Client) (q : Query) → repeats (c .known) (q .text) ≡ false → queryStarted 0 c q ≡ saying tt (asking c q under.Query) (q .text ++ (13 ∷ []))
 query-in-full c q e = rw e
 
--- the bytes of a query are few
-pub query-text-short : (c : Client) (q : Query) → length (queryStarted 0 c q .text) ≤ length (q .text) + 1
-query-text-short c q =
-    by-test (repeats (c .known) (q .text)) (λ e. rw e (omega arith)) (λ e. rw e (omega (arith, length-append (q .text) (13 ∷ []))))
-
 -- the number of PIDs
 pub pids-none : (pids : List ℕ) → length pids ≡ 0 → pidsNumber pids ≡ 2
 pids-none pids e = rw (eq-eqb (length pids) 0 e)
@@ -114,12 +109,6 @@ module _ (room : ℕ) (c : Client) (free : isNothing (c .under) ≡ true) (fits 
   pub init-starts : initSays room c ≡ saying tt (withUnder c under.Reset 0) (ascii "ATZ\r")
   unfolding initSays
   init-starts = simp (free, le-ltb room 80 fits)
-
-  -- a raw command of at most 64 bytes, each below 80 hex
-  pub command-starts : (command : List ℕ) → length command ≤ 64 → high command ≡ false →
-      commandSays room c command ≡ saying tt (withUnder (withKnown c (withLast (c .known) [])) (under.Raw (framingEffect command)) 0) (withCR command)
-  unfolding commandSays
-  command-starts command short low = simp (free, le-ltb 64 (length command) short, low, le-ltb room 80 fits)
 
   pub pid-starts : (pid count : ℕ) → queryPidSays room c pid count ≡ queryStarted 0 c (newQuery (pid ∷ []) count false)
   unfolding queryPidSays

@@ -29,9 +29,6 @@ store-holds store got piece h =
 pub reply-in : (c : Client) (store : List ℕ) → c .got ≤ 4096 → replyIn c store ≡ take (c .got) store
 reply-in c store h = take-take (c .got) 4096 store h
 
-pub reply-high : (c : Client) (piece store : List ℕ) {b : Bool} → c .got ≤ 4096 → high (take (c .got) store ++ piece) ≡ b → high (replyIn c store ++ piece) ≡ b
-reply-high c piece store h e = ap (λ (t : List ℕ). high (t ++ piece)) (reply-in c store h) ∙ e
-
 -- a piece that was put into the store has joined the reply
 pub joined-reply : (c : Client) (piece store : List ℕ) {end : ℕ} {store₁ : List ℕ} → Put store (c .got) piece end store₁ → c .got + length piece ≤ 4096 → 4096 ≤ length store →
     take end store₁ ≡ replyIn c store ++ piece

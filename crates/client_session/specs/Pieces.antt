@@ -28,11 +28,7 @@ fed room c store (p ∷ ps) =
     let s = stored (c .under) (d .answer) (c .got) p store in
     feedOn (d .answer) (record { said = d; store = s; left = ps }) (fed room (d .next) s ps)
 
--- pieces joined, and pieces of 1 to 128 bytes each
-abbrev pub joined : List (List ℕ) → List ℕ
-joined [] = []
-joined (p ∷ ps) = p ++ joined ps
-
+-- pieces of 1 to 128 bytes each
 abbrev pub Sized : List (List ℕ) → Type 0
 Sized [] = Unit {0}
 Sized (p ∷ ps) = (0 < length p) × (length p ≤ 128) × Sized ps

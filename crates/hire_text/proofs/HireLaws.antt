@@ -7,10 +7,11 @@ use native.Mathlib.Omega.{arith}
 use lib.ListN.{length, take}
 use lib.Seq.{sets, length-sets, take-all}
 use Rattle.wire.specs.Put.{Put}
+use Rattle.wire.specs.Text.{joined}
 use Rattle.wire.proofs.PutLaws.{put-then, put-front}
 use Rattle.bench.specs.declared.BenchRun.{BenchRun}
 use Rattle.bench.specs.declared.RunAnswer.the-variants as answer
-use Rattle.bench.specs.Run.{runSays, runAnswer, Recorded, recorded, joined, lent}
+use Rattle.bench.specs.Run.{runSays, runAnswer, Recorded, recorded, lent}
 use Rattle.hire_text.proofs.LineLaws.{run-length}
 use Rattle.hire_text.proofs.StandLaws.{run-fits, run-parts}
 use Rattle.hire_text.specs.Hire.{hexLines, refusedLine, hireRun, hireText}

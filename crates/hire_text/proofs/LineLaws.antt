@@ -8,13 +8,14 @@ use lib.ListN.{length, drop, getD, length-append, drop-of-length-le}
 use lib.Seq.{drop-cons}
 use Rattle.wire.specs.Answer.{Answer, result, refused}
 use Rattle.wire.specs.Put.{Put}
+use Rattle.wire.specs.Text.{joined}
 use Rattle.wire.proofs.PutLaws.{put-rest, put-nil}
 use Rattle.wire.proofs.All.{All, all-append}
 use Rattle.hex.specs.Digits.{hexByte}
 use Rattle.hex.proofs.DigitLaws.{digit-between, digits-all}
 use Rattle.query.specs.Query.{decimal}
 use Rattle.query.proofs.QueryLaws.{query-length, query-short}
-use Rattle.bench.specs.Run.{Run, joined}
+use Rattle.bench.specs.Run.{Run}
 use Rattle.hire_text.specs.Hire.{separator, hexLine, hexLines, refusedLine, stopLine, runText}
 
 -- what stands before the byte at a position, and after the last

@@ -7,6 +7,7 @@ use lib.ListN.{length, take, drop, length-append, length-drop, drop-of-length-le
 use lib.Seq.{take-append-seam}
 use borrow.Author.Tests.{le-leb}
 use Rattle.wire.specs.Put.{Put}
+use Rattle.wire.specs.Text.{joined}
 use Rattle.wire.proofs.PutLaws.{put-rest, put-nil}
 use Rattle.wire.proofs.Cases.{from-no}
 use Rattle.group.specs.Group.{got, malformed, readNumber, readGroup}
@@ -15,7 +16,6 @@ use Rattle.group.proofs.AtLaws.{NumberAt}
 use Rattle.value.specs.Values.{Value, readValue, readValues, readPart}
 use Rattle.value.proofs.ValueLaws.{value-got}
 use Rattle.value.proofs.StepLaws.{ValueHere}
-use Rattle.bench.specs.Run.{joined}
 use Rattle.hire_text.specs.Hire.{hexLine, hexLines}
 use Rattle.hire_text.specs.Steps.{IsPart, AreParts, PartEnd}
 

@@ -8,7 +8,7 @@ use lib.ListN.{length, length-append}
 use borrow.Author.Tests.{ltb-false}
 use Rattle.wire.specs.Answer.{Answer, result, refused}
 use Rattle.wire.specs.Call.{Said}
-use Rattle.wire.specs.Text.{high}
+use Rattle.wire.specs.Text.{high, joined}
 use Rattle.wire.proofs.Cases.{by-test}
 use Rattle.group.specs.Group.{groupBytes}
 use Rattle.line_list.specs.Lines.{linesBytes}
@@ -23,7 +23,7 @@ use Rattle.client_session.specs.Session.{Client}
 use Rattle.client_session.specs.Piece.{Progress, replyIn}
 use Rattle.client_session.specs.Finish.{isComplete, finishReply, finishSays}
 use Rattle.script.specs.Script.{Query, script}
-use Rattle.bench.specs.Run.{valuesRoom, Bench, Turn, initialised, startSays, asking, partOf, finishing, part, Run, sizeOf, standing, asked, begun, runRead, runSays, joined}
+use Rattle.bench.specs.Run.{valuesRoom, Bench, Turn, initialised, startSays, asking, partOf, finishing, part, Run, sizeOf, standing, asked, begun, runRead, runSays}
 use Rattle.hire_text.specs.Steps.{IsPart, AreParts}
 
 -- ---- a query's part, from any sessions

@@ -9,7 +9,7 @@ ghost use Prim.Native.Nat.{ℕ};
 ghost use lib.ListN.{length, drop};
 ghost use lib.Seq.{sets};
 ghost use Rattle.wire.specs.Put.{Put};
-ghost use Rattle.bench.specs.Run.{joined};
+ghost use Rattle.wire.specs.Text.{joined};
 ghost use Rattle.hire_text.specs.Hire.{separator, hexLine, hexLines, refusedLine, hireRun, hireText};
 ghost use Rattle.hire_text.specs.Steps.{AreParts, PartEnd};
 

@@ -225,12 +225,7 @@ line-says text rest s room p t h f k =
     bytes-run text (13 ∷ rest) s room p t h f ∙
     rw (cr-command rest (withLine s (s .line ++ text) Reading) (room - length (echoes s text)) refl (omega arith) k, ← echo-append (s .state .echo) text (13 ∷ []))
 
--- What the contracts give a caller of `byte` and `bytes`: the bytes to send stand inside the lent buffer, and those taken inside the input.
-pub byte-written : (s : Session) (b : ℕ) (out left : List ℕ) (r : ByteStep) → byteServed r left ≡ lent (byteSays (length out) s b) out → (r .written ≤ 8) × (r .written ≤ length out)
-byte-written s b out left r e =
-    let w : r .written ≡ length (byteSays (length out) s b .text) = ap (λ (x : Served Session Phase). x .written) e in
-    rw w (text-short (length out) s b)
-
+-- What the contract gives a caller of `bytes`: the bytes to send stand inside the lent buffer, and those taken inside the input.
 pub bytes-written : (s : Session) (input out left : List ℕ) (r : BytesStep) → bytesServed r left ≡ lentBytes (bytesSay (length out) s input) out →
     (r .written ≤ length out) × (r .taken ≤ length input)
 bytes-written s input out left r e =

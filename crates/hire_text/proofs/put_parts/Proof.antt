@@ -6,8 +6,8 @@ use native.Mathlib.Omega.{arith}
 use lib.Seq.{sets}
 use lib.ListN.{length}
 use borrow.Author.Needs.{needs}
+use Rattle.wire.specs.Text.{joined}
 use Rattle.wire.proofs.PutLaws.{put-length}
-use Rattle.bench.specs.Run.{joined}
 use Rattle.hire_text.specs.Hire.{hexLines}
 use Rattle.hire_text.specs.Steps.{AreParts}
 use Rattle.hire_text.proofs.PartLaws.{LinesLeft, lines-start, lines-next, lines-end}
