@@ -52,7 +52,7 @@ loop-less : tie.Need-loop-less Inv-loop μ-loop
 loop-less c = omega (arith, c .before .before .before .before .before .before .before .before .before .before .before .before .before .loop-test .taken)
 
 loop-again : tie.Need-loop-again Inv-loop μ-loop
-loop-again c = let k = c .before .before .before .before .before .before .before .before .before .before .before .before .before .before in let given = c .before .before .before .before .before .before .before .before .before .before .before .before .before .before .before .before .before .before .before .args .script .now in (omega (arith, c .before .before .before .before .before .before .before .before .before .before .before .before .argument-size .ensures, c .before .before .before .before .before .before .before .before .before .before .before .before .before .loop-test .taken), search needs, search needs, search needs, calls-turn clientCall (clientTurn (k .loop .turn) (k .loop .store) (k .loop .out) (k .loop .log)) _ given (k .loop .from) (c .before .before .before .before .before .before .before .before .before .before .before .before .argument-size .result) (getD given (k .loop .from) 0) (c .before .before .before .before .before .before .before .before .before .before .before .before .before .loop-test .taken) (c .before .before .before .before .before .before .before .before .before .before .before .before .argument-size .ensures) refl (c .before .before .before .before .before .before .call .ensures) ∙ k .loop .inv .4)
+loop-again c = let k = c .before .before .before .before .before .before .before .before .before .before .before .before .before .before in let given = c .before .before .before .before .before .before .before .before .before .before .before .before .before .before .before .before .before .before .before .args .script .now in let size = c .before .before .before .before .before .before .before .before .before .before .before .before in let test = c .before .before .before .before .before .before .before .before .before .before .before .before .before .loop-test .taken in (omega (arith, size .argument-size .ensures, test), search needs, search needs, search needs, calls-turn clientCall (clientTurn (k .loop .turn) (k .loop .store) (k .loop .out) (k .loop .log)) _ given (k .loop .from) (size .argument-size .result) (getD given (k .loop .from) 0) test (size .argument-size .ensures) refl (c .before .before .before .before .before .before .call .ensures) ∙ k .loop .inv .4)
 
 same-length : tie.Need-same-length Inv-loop μ-loop
 same-length c = search needs
