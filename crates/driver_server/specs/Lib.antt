@@ -1,1 +1,2 @@
 pub mod Server
+pub mod Steps

@@ -32,10 +32,11 @@ use Rattle.server_session.specs.declared.Phase.the-variants.{Reading}
 use Rattle.server_session.specs.declared.ServerAnswer.{ServerAnswer}
 use Rattle.server_session.specs.declared.ServerAnswer.the-variants as answer
 use Rattle.server_session.specs.declared.ServerSession.{ServerSession}
+use Rattle.server_session.specs.declared.Replied.{Replied}
 use Rattle.server_session.specs.declared.ReplyStep.{ReplyStep}
 use Rattle.server_session.specs.Session.{Session, session}
 use Rattle.server_session.specs.Replies.{isAt, answered, atAnswered, answerSays, isObd, lastAfter, repliedTo, replyRead, replySays, rejectSays, serverAnswer, replyServed}
-use Rattle.server_session.specs.Steps.{isSent, unlessRefused, rejected, keptAfter}
+use Rattle.server_session.specs.Steps.{isSent, unlessRefused, rejected, keptAfter, replyLeaves, repliedAs}
 
 -- the step that sends what was written, with some settings
 abbrev pub sentStep : ClientState → List ℕ → ℕ → ReplyStep
@@ -153,7 +154,7 @@ module _ (s : Session) (list : List ℕ) (out left : List ℕ) (turn : isObd (s 
       rw (t, none))
       (λ t. rw t (some-lines ls (λ z. eqb-false (length list) 0 t (no-lines 64 list rest (g ∙ rw z)))))
 
-  reply-lines : (n : ℕ) → R.lent (Written n) left ≡ R.replied lf sp hd list out →
+  pub reply-lines : (n : ℕ) → R.lent (Written n) left ≡ R.replied lf sp hd list out →
       record { answer = result tt; written = n; next = record { state = keptAfter (length list) s; line = []; phase = Reading }; out = left } ≡ lent (replySays (length out) s list) out
   reply-lines n q =
       let (ls, rest, g, fits, p) = written-told lf sp hd list out q in
@@ -164,10 +165,23 @@ module _ (s : Session) (list : List ℕ) (out left : List ℕ) (turn : isObd (s 
       (λ t. record { answer = result tt; written = all t; next = record { state = k t; line = []; phase = Reading }; out = p .bytes t }) ∙
       ap (λ d. lent d out) (sym (in-turn ∙ e))
 
-  -- the session that waits again, with the settings that the lines leave
-  pub reply-sent : (state : ClientState) (line : List ℕ) (n : ℕ) → R.lent (Written n) left ≡ R.replied lf sp hd list out → settings state ≡ keptAfter (length list) s →
-      replyServed (sentStep state line n) left ≡ lent (replySays (length out) s list) out
-  reply-sent state line n q k = (λ t. record { answer = result tt; written = n; next = record { state = k t; line = []; phase = Reading }; out = left }) ∙ reply-lines n q
+-- what is written leaves the session that waits again, and a number the session as it was
+is-sent : (a : Answer (Unit {0})) → isSent a ≡ true → a ≡ result tt
+is-sent (result u) e = refl
+is-sent (refused n) e = from-no cc
+
+stays : (a : Answer (Unit {0})) (n : ℕ) (s : Session) → isSent a ≡ false → s ≡ replyLeaves a n s
+stays (result u) n s e = from-no cc
+stays (refused k) n s e = refl
+
+module _ (self : ServerSession) (r : Replied) (n : ℕ) {left : List ℕ} {x : Served Session (Unit {0})} (q : repliedAs r (session self) n left ≡ x) where
+  pub reply-sent : (state : ClientState) (line : List ℕ) → isSent (serverAnswer (r .answer)) ≡ true → settings state ≡ keptAfter n (session self) → replyServed (sentStep state line (r .size)) left ≡ x
+  reply-sent state line e k =
+      (λ t. record { answer = result tt; written = r .size; next = record { state = k t; line = []; phase = Reading }; out = left }) ∙
+      ap (λ a. record { answer = a; written = r .size; next = replyLeaves a n (session self); out = left }) (sym (is-sent (serverAnswer (r .answer)) e)) ∙ q
+
+  pub reply-refused : isSent (serverAnswer (r .answer)) ≡ false → replyServed (record { answer = r .answer; written = r .size; session = self }) left ≡ x
+  reply-refused e = (λ t. record { answer = serverAnswer (r .answer); written = r .size; next = stays (serverAnswer (r .answer)) n (session self) e t; out = left }) ∙ q
 
 -- By the answer that was found first: a number leaves the session, and what is sent is said.
 

@@ -6,7 +6,7 @@ use Prim.Native.Nat.{ℕ, _+_, _-_, _≤_, _<_, min}
 use lib.Dec.{eqb, leb}
 use lib.ListN.{length, take, drop}
 use Rattle.wire.specs.Answer.{Answer, result, refused}
-use Rattle.wire.specs.Call.{Said, refusing}
+use Rattle.wire.specs.Call.{Said, refusing, Served}
 use Rattle.wire.specs.Put.{Put}
 use Rattle.wire.specs.Text.{any}
 use Rattle.client_state.specs.Settings.{Settings, withLast}
@@ -17,9 +17,11 @@ use Rattle.server_session.specs.declared.Turn.{Turn}
 use Rattle.server_session.specs.declared.Flags.{Flags}
 use Rattle.server_session.specs.declared.Did.{Did}
 use Rattle.server_session.specs.declared.Run.{Run}
+use Rattle.server_session.specs.declared.ServerSession.{ServerSession}
+use Rattle.server_session.specs.declared.Replied.{Replied}
 use Rattle.server_session.specs.Session.{Session, isReading}
 use Rattle.server_session.specs.Bytes.{byteAnswer, ServedBytes}
-use Rattle.server_session.specs.Replies.{answered}
+use Rattle.server_session.specs.Replies.{answered, serverAnswer}
 
 -- more bytes are looked at after this answer
 abbrev pub goesOn : Answer Phase → Bool
@@ -46,6 +48,10 @@ pub record Shows (state : Settings) (f : Flags) : Type 0 where
 -- the session that a byte leaves
 abbrev pub left : Did → Settings → List ℕ → Session
 left d state line = record { state = state; line = cond (d .repeat) (state .last) (take (d .turn .len) line); phase = d .turn .phase }
+
+-- the code's session after that
+abbrev pub after : ServerSession → Did → ServerSession
+after self d = record { state = self .state; line = cond (d .repeat) (self .state .«last_obd_command») (self .line); turn = d .turn }
 
 -- A byte that writes from a position of the out buffer on does what is said. Where the last command is repeated it is the line, and no more bytes are looked at.
 pub record Does (d : Said Session Phase) (state : Settings) (line out : List ℕ) (at : ℕ) (r : Did) (out₁ : List ℕ) : Type 0 where
@@ -114,3 +120,12 @@ rejected s text = answered (s .state) (chipReply (s .state .linefeeds) (text ∷
 -- the settings after a reply with a line list of some bytes
 abbrev pub keptAfter : ℕ → Session → Settings
 keptAfter n s = cond (eqb n 0) (s .state) (withLast (s .state) (s .line))
+
+-- the session that a reply with a line list of some bytes leaves, by its answer
+abbrev pub replyLeaves : Answer (Unit {0}) → ℕ → Session → Session
+replyLeaves (result u) n s = record { state = keptAfter n s; line = []; phase = phase.Reading }
+replyLeaves (refused k) n s = s
+
+-- the reply as the host sees it
+abbrev pub repliedAs : Replied → Session → ℕ → List ℕ → Served Session (Unit {0})
+repliedAs r s n out = record { answer = serverAnswer (r .answer); written = r .size; next = replyLeaves (serverAnswer (r .answer)) n s; out = out }

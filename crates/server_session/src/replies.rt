@@ -1,5 +1,6 @@
 // The answers to a command that is handed out.
 use crate::Phase;
+use crate::Replied;
 use crate::ReplyStep;
 use crate::ServerAnswer;
 use crate::ServerSession;
@@ -8,17 +9,19 @@ use at_command::AtHandled;
 use client_state::ClientState;
 use reply::ReplyAnswer;
 ghost use mathlib.Core.Path.{_≡_};
-ghost use mathlib.Core.Bool.{Bool};
+ghost use mathlib.Core.Bool.{Bool, cond};
 ghost use mathlib.Core.List.{List, [], _∷_};
-ghost use Prim.Native.Nat.{ℕ, _≤_};
+ghost use Prim.Native.Nat.{ℕ};
+ghost use lib.Dec.{eqb};
 ghost use lib.ListN.{length, take};
 ghost use Rattle.wire.specs.Call.{lent};
+ghost use Rattle.wire.specs.Put.{Put};
 ghost use Rattle.client_state.specs.Settings.{settings, withLast};
 ghost use Rattle.reply.specs.Shape.{chipReply};
-ghost use Rattle.at_command.specs.Dialect.{atKind, kindSettings};
+ghost use Rattle.at_command.specs.Dialect.{atKind, kindSettings, kindLines};
 ghost use Rattle.server_session.specs.Session.{Session, session};
 ghost use Rattle.server_session.specs.Replies.{isAt, isObd, serverAnswer, answerSays, atAnswered, replySays, rejectSays, replyServed};
-ghost use Rattle.server_session.specs.Steps.{isSent, unlessRefused, rejected};
+ghost use Rattle.server_session.specs.Steps.{isSent, unlessRefused, rejected, shown, repliedAs};
 
 // Whether an AT command is handed out.
 fn is_at(phase: Phase) -> bool
@@ -107,38 +110,75 @@ fn reject_refusal(turn: Turn, text: &[u8], linefeeds: bool, room: usize) -> Serv
     ServerAnswer::Sent
 }
 
-// The settings after the AT command that the first size bytes of a line are, and what it is.
-fn handled(state: ClientState, line: &[u8], size: usize) -> AtHandled
-    requires { ⌜ size ≤ length (now line) ⌝ }
-    ensures { λ r. ⌜ (settings (r .state) ≡ kindSettings (atKind (take size (now (line .entry)))) (settings state)) × (r .kind ≡ atKind (take size (now (line .entry)))) ⌝ }
+// The reply to an OBD command, written at the front of out where it gets no number.
+fn write_lines(turn: Turn, state: ClientState, list: &[u8], out: &mut [u8]) -> Replied
+    ensures { λ r. ⌜ ((line : List ℕ) → repliedAs r (shown turn (settings state) line) (length (now (list .entry))) (now (out .exit)) ≡ lent (replySays (length (now (out .entry))) (shown turn (settings state) line) (now (list .entry))) (now (out .entry))) ⌝ }
 {
+    let phase = turn.phase;
+    if is_obd(phase) {
+        let answer = reply::write_reply(
+            list,
+            state.linefeeds_enabled,
+            state.spaces_enabled,
+            state.headers_enabled,
+            out,
+        );
+        return match answer {
+            ReplyAnswer::Malformed => Replied {
+                answer: ServerAnswer::Malformed,
+                size: 0,
+            },
+            ReplyAnswer::SmallBuffer => Replied {
+                answer: ServerAnswer::SmallBuffer,
+                size: 0,
+            },
+            ReplyAnswer::Written(size) => Replied {
+                answer: ServerAnswer::Sent, // it fits
+                size,
+            },
+        };
+    }
+    Replied {
+        answer: ServerAnswer::OutOfTurn,
+        size: 0,
+    }
+}
+
+// The settings after the AT command that the first len bytes of a line are, and what it is.
+fn handled(state: ClientState, line: &[u8], len: usize) -> AtHandled
+    requires { ⌜ length (now line) ≡ 128 ⌝ }
+    ensures { λ r. ⌜ (settings (r .state) ≡ kindSettings (atKind (take len (now (line .entry)))) (settings state)) × (r .kind ≡ atKind (take len (now (line .entry)))) ⌝ }
+{
+    let size = wire::at_most(len, 128);
     at_command::at_handled(state, &line[..size])
 }
 
-// The settings with the first size bytes of a line as the last command.
-fn kept(state: ClientState, line: &[u8], size: usize) -> ClientState
-    requires { ⌜ size ≤ length (now line) ⌝ }
-    ensures { λ r. ⌜ settings r ≡ withLast (settings state) (take size (now (line .entry))) ⌝ }
+// The answer to the AT command, with the line ending that is then in force.
+fn put_answer<'a>(handled: AtHandled, ati: &'a [u8], device: &'a [u8], out: &mut [u8]) -> usize
+    ensures { λ r. ⌜ Put (now (out .entry)) 0 (chipReply (settings (handled .state) .linefeeds) (kindLines (now (ati .entry)) (now (device .entry)) (handled .kind))) r (now (out .exit)) ⌝ }
 {
-    state.with_last(&line[..size])
+    let kind = handled.kind;
+    at_answer::put_at_answer(out, kind, ati, device, handled.state.linefeeds_enabled)
+}
+
+// The settings after a reply with a line list of some bytes: the first len bytes of a line are the last command, unless there are no lines.
+fn kept(state: ClientState, line: &[u8], len: usize, lines: usize) -> ClientState
+    requires { ⌜ length (now line) ≡ 128 ⌝ }
+    ensures { λ r. ⌜ settings r ≡ cond (eqb lines 0) (settings state) (withLast (settings state) (take len (now (line .entry)))) ⌝ }
+{
+    if lines == 0 {
+        return state;
+    }
+    let end = wire::at_most(len, 128);
+    state.with_last(&line[..end])
 }
 
 impl ServerSession {
-    // A number, with the session as it is.
-    fn refused(self, answer: ServerAnswer) -> ReplyStep
-        ensures { λ r. ⌜ r ≡ record { answer = answer; written = 0; session = self } ⌝ }
+    // The command has been answered: with settings as they are now the next line is read.
+    fn answered(mut self, state: ClientState, written: usize) -> ReplyStep
+        ensures { λ r. ⌜ r ≡ record { answer = ServerAnswer.Sent; written = written; session = record { state = state; line = self .line; turn = record { phase = Phase.Reading; len = 0 } } } ⌝ }
     {
-        ReplyStep {
-            answer,
-            written: 0,
-            session: self,
-        }
-    }
-
-    // The command has been answered: the next line is read.
-    fn answered(mut self, written: usize) -> ReplyStep
-        ensures { λ r. ⌜ r ≡ record { answer = ServerAnswer.Sent; written = written; session = record { state = self .state; line = self .line; turn = record { phase = Phase.Reading; len = 0 } } } ⌝ }
-    {
+        self.state = state;
         let turn = Turn {
             phase: Phase::Reading,
             len: 0,
@@ -151,65 +191,37 @@ impl ServerSession {
         }
     }
 
-    // The AT command is handled and its answer, which fits, written.
-    fn answer_at<'a>(mut self, ati: &'a [u8], device: &'a [u8], out: &mut [u8]) -> ReplyStep
-        requires { ⌜ length (atAnswered (session self) (now ati) (now device) .text) ≤ length (now out) ⌝ }
-        ensures { λ r. ⌜ replyServed r (now (out .exit)) ≡ lent (atAnswered (session self) (now (ati .entry)) (now (device .entry))) (now (out .entry)) ⌝ }
-    {
-        let size = wire::at_most(self.turn.len, 128);
-        let handled = handled(self.state, &self.line, size);
-        let state = handled.state;
-        let kind = handled.kind;
-        self.state = state;
-        let written = at_answer::put_at_answer(
-            out,
-            kind,
-            ati,
-            device,
-            self.state.linefeeds_enabled,
-        );
-        self.answered(written)
-    }
-
     // Answers the AT command that is handed out, with the line ending that is then in force. ati and device are the identity strings for ATI and AT@1.
     pub fn answer<'a>(self, ati: &'a [u8], device: &'a [u8], out: &mut [u8]) -> ReplyStep
         ensures { λ r. ⌜ replyServed r (now (out .exit)) ≡ lent (answerSays (length (now (out .entry))) (session self) (now (ati .entry)) (now (device .entry))) (now (out .entry)) ⌝ }
     {
         let answer = answer_refusal(self.turn, ati, device, out.len());
         if is_sent(answer) {
-            return self.answer_at(ati, device, out);
+            let handled = handled(self.state, &self.line, self.turn.len);
+            let written = put_answer(handled, ati, device, out);
+            return self.answered(handled.state, written);
         }
-        self.refused(answer)
+        ReplyStep {
+            answer,
+            written: 0,
+            session: self,
+        }
     }
 
     // Replies to the OBD command that is handed out with a line list, in the reader's settings. It becomes the last command, unless there are no lines.
-    pub fn reply(mut self, list: &[u8], out: &mut [u8]) -> ReplyStep
+    pub fn reply(self, list: &[u8], out: &mut [u8]) -> ReplyStep
         ensures { λ r. ⌜ replyServed r (now (out .exit)) ≡ lent (replySays (length (now (out .entry))) (session self) (now (list .entry))) (now (out .entry)) ⌝ }
     {
-        let turn = self.turn;
-        let phase = turn.phase;
-        if !is_obd(phase) {
-            return self.refused(ServerAnswer::OutOfTurn);
+        let replied = write_lines(self.turn, self.state, list, out);
+        let answer = replied.answer;
+        if is_sent(answer) {
+            let state = kept(self.state, &self.line, self.turn.len, list.len());
+            return self.answered(state, replied.size);
         }
-        let answer = reply::write_reply(
-            list,
-            self.state.linefeeds_enabled,
-            self.state.spaces_enabled,
-            self.state.headers_enabled,
-            out,
-        );
-        match answer {
-            ReplyAnswer::Malformed => self.refused(ServerAnswer::Malformed),
-            ReplyAnswer::SmallBuffer => self.refused(ServerAnswer::SmallBuffer),
-            ReplyAnswer::Written(written) => {
-                if list.len() == 0 {
-                    return self.answered(written);
-                }
-                let size = wire::at_most(turn.len, 128);
-                let state = kept(self.state, &self.line, size);
-                self.state = state;
-                self.answered(written)
-            }
+        ReplyStep {
+            answer,
+            written: replied.size,
+            session: self,
         }
     }
 
@@ -221,8 +233,12 @@ impl ServerSession {
         let answer = reject_refusal(self.turn, text, linefeeds, out.len());
         if is_sent(answer) {
             let written = reply::put_text_reply(out, 0, text, linefeeds);
-            return self.answered(written);
+            return self.answered(self.state, written);
         }
-        self.refused(answer)
+        ReplyStep {
+            answer,
+            written: 0,
+            session: self,
+        }
     }
 }

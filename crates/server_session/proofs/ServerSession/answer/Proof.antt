@@ -4,7 +4,7 @@ use lib.ListN.{length}
 use borrow.Author.Needs.{needs}
 use Rattle.server_session.specs.Replies.{atAnswered}
 use Rattle.server_session.specs.Session.{session}
-use Rattle.server_session.proofs.ReplyLaws.{says-sent, refused-served, answer-fits}
+use Rattle.server_session.proofs.ReplyLaws.{says-sent, refused-served, answer-fits, at-sent}
 use Rattle.server_session.proofs.ServerSession.answer.Statement.{statement}
 use Rattle.server_session.proofs.ServerSession.answer.Tie as tie
 
@@ -14,20 +14,23 @@ answer-refusal-requires c κs = search needs
 is-sent-requires : tie.Need-is-sent-requires
 is-sent-requires c κs = search needs
 
-answer-at-requires : tie.Need-answer-at-requires
-answer-at-requires c κs = let s = session (c .before .before .before .before .before .before .before .args .self) in let d = says-sent (c .before .before .before .answer-refusal .result) s (c .before .before .before .answer-refusal .ensures s refl) (sym (c .before .before .is-sent .ensures) ∙ c .before .if1 .taken) in rw d at (answer-fits (length (c .before .before .before .before .before .before .before .args .out .now)) s (c .before .before .before .before .before .before .before .args .ati .now) (c .before .before .before .before .before .before .before .args .device .now))
+handled-requires : tie.Need-handled-requires
+handled-requires c κs = search needs
+
+put-answer-requires : tie.Need-put-answer-requires
+put-answer-requires c κs = search needs
+
+answered-requires : tie.Need-answered-requires
+answered-requires c κs = search needs
 
 same-length : tie.Need-same-length
 same-length c = search needs
 
 returns : tie.Need-returns
-returns c = let s = session (c .before .before .before .before .before .before .before .before .before .before .args .self) in let d = says-sent (c .before .before .before .before .before .before .answer-refusal .result) s (c .before .before .before .before .before .before .answer-refusal .ensures s refl) (sym (c .before .before .before .before .before .is-sent .ensures) ∙ c .before .before .before .before .if1 .taken) in rw d (c .before .before .answer-at .ensures)
-
-refused-requires : tie.Need-refused-requires
-refused-requires c κs = search needs
+returns c = let a = c .before .before .before .before .before .before .before .before .before .before .before .before .before .before .before .before .before in let s = session (a .args .t1) in let f = c .before .before .before .before .before .before .before .before .before .before .before .before in let d = says-sent (f .answer-refusal .result) s (f .answer-refusal .ensures s refl) (sym (c .before .before .before .before .before .before .before .before .before .before .before .is-sent .ensures) ∙ c .before .before .before .before .before .before .before .before .before .before .if1 .taken) in let h = c .before .before .before .before .before in rw (d, c .answered .ensures) (at-sent (a .args .t1) (a .args .ati .now) (a .args .device .now) (h .handled .result .state) (h .handled .result .kind) (h .handled .ensures .0) (h .handled .ensures .1) (rw d at (answer-fits (length (a .args .out .now)) s (a .args .ati .now) (a .args .device .now))) (c .before .before .before .put-answer .ensures))
 
 returns-2 : tie.Need-returns-2
-returns-2 c = let s = session (c .before .before .before .before .before .before .before .args .self) in rw (c .refused .ensures) (refused-served (c .before .before .before .before .before .before .before .args .self) (c .before .before .before .answer-refusal .result) (atAnswered s (c .before .before .before .before .before .before .before .args .ati .now) (c .before .before .before .before .before .before .before .args .device .now)) _ (c .before .before .before .answer-refusal .ensures s refl) (sym (c .before .before .is-sent .ensures) ∙ c .before .if1 .left))
+returns-2 c = let a = c .before .before .before .before .before .before .before in let s = session (a .args .t1) in let f = c .before .before in refused-served (a .args .t1) (f .answer-refusal .result) (atAnswered s (a .args .ati .now) (a .args .device .now)) _ (f .answer-refusal .ensures s refl) (sym (c .before .is-sent .ensures) ∙ c .if1 .left)
 
 pub answer-spec : {M : Type 1} → statement M
 answer-spec =
@@ -35,8 +38,9 @@ answer-spec =
     (tie.spec
     answer-refusal-requires
     is-sent-requires
-    answer-at-requires
+    handled-requires
+    put-answer-requires
+    answered-requires
     same-length
     returns
-    refused-requires
     returns-2)

@@ -2,8 +2,8 @@
 use mathlib.Core.Path.{refl, sym, _∙_}
 use lib.ListN.{length}
 use borrow.Author.Needs.{needs}
-use Rattle.server_session.specs.Steps.{rejected}
 use Rattle.server_session.specs.Session.{session}
+use Rattle.server_session.specs.Steps.{rejected}
 use Rattle.server_session.proofs.ReplyLaws.{says-sent, refused-served, reject-fits, sent}
 use Rattle.server_session.proofs.ServerSession.reject.Statement.{statement}
 use Rattle.server_session.proofs.ServerSession.reject.Tie as tie
@@ -24,13 +24,10 @@ same-length : tie.Need-same-length
 same-length c = search needs
 
 returns : tie.Need-returns
-returns c = let s = session (c .before .before .before .before .before .before .before .before .before .before .args .self) in let d = says-sent (c .before .before .before .before .before .before .before .reject-refusal .result) s (c .before .before .before .before .before .before .before .reject-refusal .ensures s refl refl) (sym (c .before .before .before .before .before .before .is-sent .ensures) ∙ c .before .before .before .before .before .if1 .taken) in let h = rw d at (reject-fits (length (c .before .before .before .before .before .before .before .before .before .before .args .out .now)) s (c .before .before .before .before .before .before .before .before .before .before .args .text .now)) in rw (d, c .answered .ensures) (sent (c .before .before .before .before .before .before .before .before .before .before .args .self .state) (c .before .before .before .before .before .before .before .before .before .before .args .self .line) _ (c .before .before .before .put-text-reply .ensures) h)
-
-refused-requires : tie.Need-refused-requires
-refused-requires c κs = search needs
+returns c = let a = c .before .before .before .before .before .before .before .before .before .before in let s = session (a .args .self) in let f = c .before .before .before .before .before .before .before in let d = says-sent (f .reject-refusal .result) s (f .reject-refusal .ensures s refl refl) (sym (c .before .before .before .before .before .before .is-sent .ensures) ∙ c .before .before .before .before .before .if1 .taken) in let h = rw d at (reject-fits (length (a .args .out .now)) s (a .args .text .now)) in rw (d, c .answered .ensures) (sent (a .args .self .state) (a .args .self .line) _ (c .before .before .before .put-text-reply .ensures) h)
 
 returns-2 : tie.Need-returns-2
-returns-2 c = let s = session (c .before .before .before .before .before .before .args .self) in rw (c .refused .ensures) (refused-served (c .before .before .before .before .before .before .args .self) (c .before .before .before .reject-refusal .result) (rejected s (c .before .before .before .before .before .before .args .text .now)) _ (c .before .before .before .reject-refusal .ensures s refl refl) (sym (c .before .before .is-sent .ensures) ∙ c .before .if1 .left))
+returns-2 c = let a = c .before .before .before .before .before in let s = session (a .args .self) in let f = c .before .before in refused-served (a .args .self) (f .reject-refusal .result) (rejected s (a .args .text .now)) _ (f .reject-refusal .ensures s refl refl) (sym (c .before .is-sent .ensures) ∙ c .if1 .left)
 
 pub reject-spec : {M : Type 1} → statement M
 reject-spec =
@@ -42,5 +39,4 @@ reject-spec =
     answered-requires
     same-length
     returns
-    refused-requires
     returns-2)

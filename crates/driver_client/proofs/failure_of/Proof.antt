@@ -1,0 +1,13 @@
+-- `driver_client::failure_of` meets its contract.
+use borrow.Author.Tests.{eq-eqb, ne-eqb}
+use Rattle.driver_client.proofs.failure_of.Statement.{statement}
+use Rattle.driver_client.proofs.failure_of.Tie as tie
+
+returns : tie.Need-returns
+returns c = rw (eq-eqb _ _ (c .if1 .taken))
+
+returns-2 : tie.Need-returns-2
+returns-2 c = rw (ne-eqb _ _ (c .if1 .left))
+
+pub failure-of-spec : {M : Type 1} → statement M
+failure-of-spec = tie.close (tie.spec returns returns-2)
