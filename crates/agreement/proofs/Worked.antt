@@ -1,7 +1,6 @@
 -- What a vehicle gave, worked out by hand from document 01: card 5's line with its ECU unknown, and a line of 7E9 with a PID outside the table; how many queries fit.
 use mathlib.Core.Path.{_≡_, refl}
 use mathlib.Core.List.{List, [], _∷_}
-use Prim.Native.Nat.{ℕ}
 use Rattle.wire.specs.Text.{ascii}
 use Rattle.hex.specs.Digits.{hexDigit}
 use Rattle.group.specs.Group.{groupBytes}

@@ -1,8 +1,6 @@
 -- Every starred card holds of the definitions, by computation.
 use mathlib.Core.Path.{_≡_, refl}
 use mathlib.Core.Bool.{true}
-use mathlib.Core.List.{List}
-use Prim.Native.Nat.{ℕ}
 use lib.ListN.{replicate}
 use Rattle.wire.specs.Answer.{result, refused}
 use Rattle.wire.specs.Text.{has, high, isSpace, raised}

@@ -1,5 +1,5 @@
 -- The examples of the client's end hold, by computation.
-use mathlib.Core.Path.{_≡_, refl}
+use mathlib.Core.Path.{refl}
 use native.Mathlib.Omega.{arith}
 use Rattle.wire.specs.Text.{raised, has, high}
 use Rattle.hex.specs.Digits.{hexDigit}

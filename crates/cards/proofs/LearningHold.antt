@@ -1,5 +1,5 @@
 -- The examples of finishing a query hold, by computation.
-use mathlib.Core.Path.{_≡_, refl}
+use mathlib.Core.Path.{refl}
 use Rattle.wire.specs.Text.{isSpace, raised, has, high}
 use Rattle.hex.specs.Digits.{hexDigit}
 use Rattle.hex.specs.Read.{digit, leading}

@@ -1,5 +1,5 @@
 -- The examples of numbers, lists, values and scripts hold, by computation.
-use mathlib.Core.Path.{_≡_, refl}
+use mathlib.Core.Path.{refl}
 use mathlib.Core.List.{[], _∷_}
 use native.Mathlib.Omega.{arith}
 use lib.ListN.{replicate}

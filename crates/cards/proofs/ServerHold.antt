@@ -1,5 +1,5 @@
 -- The examples of the server's end hold, by computation.
-use mathlib.Core.Path.{_≡_, refl}
+use mathlib.Core.Path.{refl}
 use Rattle.wire.specs.Text.{high, isSpace, raised}
 use Rattle.hex.specs.Digits.{hexDigit}
 use Rattle.line_list.specs.Lines.{lineList}

@@ -1,5 +1,5 @@
 -- The examples of digits, texts and lines hold, by computation.
-use mathlib.Core.Path.{_≡_, refl}
+use mathlib.Core.Path.{refl}
 use mathlib.Core.List.{[], _∷_}
 use Rattle.wire.specs.Put.{Put}
 use Rattle.wire.specs.Text.{ascii, isSpace, raised, has, high}

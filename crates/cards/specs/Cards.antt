@@ -11,7 +11,7 @@ use Rattle.value.specs.Values.{valuesBytes}
 use Rattle.pid.specs.Lengths.{mode01Lengths}
 use Rattle.reply_lines.specs.Decode.{replyLines}
 use Rattle.reply_values.specs.Values.{valuesOf}
-use Rattle.server_session.specs.Session.{Session, freshSession}
+use Rattle.server_session.specs.Session.{freshSession}
 use Rattle.server_session.specs.declared.Phase.the-variants.{ObdCommand}
 use Rattle.server_session.specs.Bytes.{Heard, bytesSay}
 use Rattle.server_session.specs.Replies.{answerSays, replySays}

@@ -2,11 +2,11 @@
 -- `validate_multi_pid_support`.
 use mathlib.Core.Bool.{true, false}
 use mathlib.Core.List.{List, [], _∷_, _++_, map}
-use mathlib.Core.Option.{Option, none, some}
+use mathlib.Core.Option.{none, some}
 use Prim.Native.Nat.{ℕ}
 use Prim.Native.String.{String}
 use lib.ListN.{replicate, set}
-use Rattle.wire.specs.Answer.{Answer, result, refused}
+use Rattle.wire.specs.Answer.{result, refused}
 use Rattle.wire.specs.Call.{Said, lent}
 use Rattle.wire.specs.Text.{ascii}
 use Rattle.pid.specs.Lengths.{mode01Lengths, lengthIn}

@@ -1,14 +1,14 @@
 -- Examples of group numbers, line lists, values, records, lengths and scripts. Document 01, "Group numbers and value records", pid.rs, "The bench run"; SAE J1979.
 use mathlib.Core.Bool.{true, false}
-use mathlib.Core.List.{List, [], _∷_, _++_, map}
-use mathlib.Core.Option.{Option, none, some}
+use mathlib.Core.List.{List, [], _∷_, map}
+use mathlib.Core.Option.{none, some}
 use Prim.Native.Nat.{ℕ}
 use lib.ListN.{replicate}
-use Rattle.wire.specs.Answer.{Answer, result, refused}
-use Rattle.group.specs.Group.{Read, got, groupBytes}
+use Rattle.wire.specs.Answer.{result, refused}
+use Rattle.group.specs.Group.{got, groupBytes}
 use Rattle.group.specs.Answers.{groupRead, groupAt}
 use Rattle.group.specs.declared.GroupRead.the-variants as group
-use Rattle.line_list.specs.Lines.{Line, line, linesBytes, lineList}
+use Rattle.line_list.specs.Lines.{line, linesBytes}
 use Rattle.line_list.specs.Answers.{lineStep, lineAt, linesCheck, linesIn}
 use Rattle.line_list.specs.declared.LineStep.the-variants as lines
 use Rattle.line_list.specs.declared.LinesCheck.the-variants as list

@@ -4,10 +4,9 @@ use mathlib.Core.List.{List, [], _∷_, _++_, map}
 use Prim.Native.Nat.{ℕ, _-_}
 use Prim.Native.String.{String}
 use lib.ListN.{length, replicate}
-use Rattle.wire.specs.Answer.{Answer, result, refused}
+use Rattle.wire.specs.Answer.{result, refused}
 use Rattle.wire.specs.Call.{lent}
 use Rattle.wire.specs.Text.{ascii}
-use Rattle.client_state.specs.Settings.{Settings, fresh}
 use Rattle.at_command.specs.Dialect.{atKind, identityOf}
 use Rattle.reply.specs.Shape.{chipReply}
 use Rattle.reply.specs.Answers.{replied}
@@ -16,7 +15,7 @@ use Rattle.reply.specs.Answers as reply
 use Rattle.reply.specs.declared.ReplyAnswer.the-variants as written
 use Rattle.server_session.specs.Session.{Session, freshSession}
 use Rattle.server_session.specs.declared.Phase.{Phase}
-use Rattle.server_session.specs.declared.Phase.the-variants.{Reading, AtCommand, ObdCommand}
+use Rattle.server_session.specs.declared.Phase.the-variants.{Reading, ObdCommand}
 use Rattle.server_session.specs.declared.ByteAnswer.the-variants as byte
 use Rattle.server_session.specs.declared.ServerAnswer.the-variants as answer
 use Rattle.server_session.specs.declared.ServerSession.{ServerSession}

@@ -1,7 +1,7 @@
 -- Examples of digits, texts and the lines of a reply. Document 01, client_session.rs and server_session.rs; Rust's `from_str_radix`; the ASCII table.
 use mathlib.Core.Bool.{true, false}
 use mathlib.Core.List.{List, [], _∷_, _++_, map}
-use mathlib.Core.Option.{Option, none, some}
+use mathlib.Core.Option.{none, some}
 use Prim.Native.Nat.{ℕ}
 use lib.ListN.{replicate}
 use Rattle.wire.specs.Text.{ascii, same, begins, isSpace, raised, has, high}

@@ -2,12 +2,12 @@
 use mathlib.Core.Path.{_≡_, refl, sym, ap, _∙_}
 use mathlib.Core.Bool.{Bool, true, false, cond}
 use mathlib.Core.List.{List, [], _∷_, _++_, map}
-use Prim.Native.Nat.{ℕ, zero, suc, _+_, _-_, _≤_, _<_}
+use Prim.Native.Nat.{ℕ, zero, suc, _+_, _≤_, _<_}
 use native.Mathlib.Omega.{arith}
 use lib.Dec.{eqb}
 use lib.ListN.{length, drop, getD, length-map, List·getD-map}
 use borrow.Author.Tests.{eq-eqb, ne-eqb}
-use Rattle.wire.specs.Text.{ascii, same, begins, raised}
+use Rattle.wire.specs.Text.{ascii, begins, raised}
 use Rattle.wire.proofs.Cases.{by-test}
 use Rattle.wire.proofs.TextLaws.{same-begins, same-long, begins-differ, begins-next}
 use Rattle.client_command.specs.Commands.{withCR, isCommand, setupText}

@@ -4,11 +4,11 @@ use mathlib.Core.List.{List, [], _∷_, _++_, append-assoc}
 use Prim.Native.Nat.{ℕ, zero, suc, _+_, _-_, _≤_, _<_}
 use native.Mathlib.Omega.{arith}
 use lib.ListN.{length, take, drop, length-append, length-drop, take-append-drop}
-use lib.Seq.{length-take-le, drop-drop}
+use lib.Seq.{length-take-le}
 use Rattle.wire.proofs.ListLaws.{ends-more}
 use Rattle.wire.proofs.Cases.{from-no}
 use Rattle.wire.proofs.All.{Bytes}
-use Rattle.group.specs.Group.{Read, got, groupBytes, readGroup, readBytes, andThen}
+use Rattle.group.specs.Group.{got, groupBytes, readGroup, readBytes, andThen}
 use Rattle.group.proofs.GroupLaws.{groupBytes-some, group-written, group-got, only-written, read-rest, bytes-written, bytes-got, then-got, bytes-append}
 use Rattle.line_list.specs.Lines.{Line, line, Fits, AllFit, lineBytes, linesBytes, readLine, readLines, readAllLines, lineList}
 

@@ -9,7 +9,6 @@ use lib.ListN.{length, drop, getD, length-append, drop-of-length-le}
 use lib.Seq.{drop-cons}
 use borrow.Author.Tests.{lt-ltb, le-ltb, ltb-true}
 use Rattle.wire.specs.Put.{Put}
-use Rattle.wire.specs.Text.{has}
 use Rattle.wire.proofs.PutLaws.{put-rest, put-nil}
 use Rattle.wire.proofs.Cases.{by-test}
 use Rattle.hex.specs.Digits.{hexDigit, hexByte, hexBytes}

@@ -9,16 +9,15 @@ use lib.Dec.{eqb, leb, lit≤}
 use lib.ListN.{length, length-append}
 use borrow.Author.Tests.{eqb-true, eqb-false, leb-false}
 use Rattle.wire.specs.Answer.{Answer, result, refused}
-use Rattle.wire.specs.Call.{Said, saying, Served, lent}
+use Rattle.wire.specs.Call.{Said, saying}
 use Rattle.wire.specs.Text.{ascii, begins, any}
 use Rattle.reply.specs.Shape.{chipReply}
 use Rattle.wire.proofs.Cases.{by-test, from-no, or-none}
 use Rattle.server_session.specs.declared.Phase.{Phase}
 use Rattle.server_session.specs.declared.Phase.the-variants.{Reading, AtCommand, ObdCommand}
-use Rattle.server_session.specs.declared.ByteStep.{ByteStep}
 use Rattle.server_session.specs.declared.BytesStep.{BytesStep}
 use Rattle.server_session.specs.Session.{Session}
-use Rattle.server_session.specs.Bytes.{canonical, byteNumber, withLine, echoes, echoed, commandPhase, emptyLine, lineEnd, byteTaken, byteSays, byteServed, Heard, onward, stopOr, bytesSay, ServedBytes, bytesServed, lentBytes}
+use Rattle.server_session.specs.Bytes.{canonical, byteNumber, withLine, echoes, echoed, commandPhase, emptyLine, lineEnd, byteTaken, byteSays, Heard, onward, stopOr, bytesSay, ServedBytes, bytesServed, lentBytes}
 use Rattle.server_session.specs.Steps.{goesOn, counted, isSpecial}
 use Rattle.server_session.proofs.ByteLaws.{number-open, says-taken, says-refused, empty-none, empty-last, line-command, taken-cr, taken-lf, taken-plain, text-short}
 

@@ -1,16 +1,15 @@
 -- Document 01, server_session.rs: "Per byte: echo it if echo is on (LF too); LF is not stored; CR ends the line. The command is the line without 09 to 0D
 -- and 20, letters a to z raised. Empty: the last command replied to is handed out, or `?` is written when there is none. It starts with AT: an AT command;
 -- else an OBD one."
-use mathlib.Core.Bool.{Bool, true, false, cond, _&&_, _||_, not}
+use mathlib.Core.Bool.{cond, _&&_, not}
 use mathlib.Core.List.{List, [], _∷_, _++_}
-use Prim.Native.Nat.{ℕ, zero, suc, _+_, _-_}
+use Prim.Native.Nat.{ℕ, suc, _-_}
 use lib.Dec.{eqb, ltb, leb}
 use lib.ListN.{length}
 use lib.Seq.{sets}
 use Rattle.wire.specs.Answer.{Answer, result, refused}
 use Rattle.wire.specs.Call.{Said, saying, refusing, Served}
 use Rattle.wire.specs.Text.{ascii, begins, isSpace, raised}
-use Rattle.client_state.specs.Settings.{Settings}
 use Rattle.reply.specs.Shape.{chipReply}
 use Rattle.server_session.specs.declared.Phase.{Phase}
 use Rattle.server_session.specs.declared.Phase.the-variants as phase

@@ -3,7 +3,7 @@
 use mathlib.Core.Bool.{Bool, true, false, cond, _||_}
 use mathlib.Core.List.{List, [], _∷_}
 use Prim.Native.Nat.{ℕ}
-use lib.Dec.{eqb, ltb}
+use lib.Dec.{ltb}
 use lib.ListN.{length}
 use Rattle.wire.specs.Answer.{Answer, result, refused}
 use Rattle.wire.specs.Call.{Said, saying, refusing, Served}

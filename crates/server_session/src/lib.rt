@@ -14,7 +14,7 @@ ghost use Rattle.wire.specs.Call.{lent};
 ghost use Rattle.wire.specs.Put.{Put};
 ghost use Rattle.client_state.specs.Settings.{Settings};
 ghost use Rattle.server_session.specs.Session.{Session, session, freshSession, isReading};
-ghost use Rattle.server_session.specs.Bytes.{canonical, byteNumber, commandPhase, emptyLine, lineEnd, byteTaken, byteSays, byteAnswer, byteServed, bytesSay, bytesServed, lentBytes};
+ghost use Rattle.server_session.specs.Bytes.{canonical, byteNumber, commandPhase, emptyLine, lineEnd, byteSays, byteAnswer, byteServed, bytesSay, bytesServed, lentBytes};
 ghost use Rattle.server_session.specs.Steps.{Does, numbered, goesOn, isSpecial, Shows, shown, after, Serves, RunFits, RanTo, Joins};
 
 // Who speaks next.

@@ -9,7 +9,7 @@ use at_command::AtHandled;
 use client_state::ClientState;
 use reply::ReplyAnswer;
 ghost use mathlib.Core.Path.{_≡_};
-ghost use mathlib.Core.Bool.{Bool, cond};
+ghost use mathlib.Core.Bool.{cond};
 ghost use mathlib.Core.List.{List, [], _∷_};
 ghost use Prim.Native.Nat.{ℕ};
 ghost use lib.Dec.{eqb};
