@@ -21,10 +21,15 @@ use Rattle.exchange.specs.Exchange.{Exchanged, exchanged, exchangeServed}
 use Rattle.exchange.specs.Exchange as exchange
 use Rattle.bench.specs.declared.Turn as code-turn
 use Rattle.bench.specs.Run.{sendRoom, replyRoom, freshStore, onward, initialised}
-use Rattle.bench.specs.Steps.{turnOf, resetFresh, OnePiece, Does, Comes}
+use Rattle.bench.specs.Steps.{turnOf, resetFresh, FreshHears, OnePiece, Does, Comes}
 use Rattle.bench.proofs.TurnLaws.{lent-length, lent-text, lent-inside, reply-text, reply-next, reply-length}
 use Rattle.bench.proofs.AskLaws.{start-text, start-size, start-inside}
 use Rattle.bench.proofs.OnwardLaws.{held-then, does-held, onward-held}
+
+-- a fresh server hears a command
+pub fresh-hears : (command reply reply₁ : List ℕ) (server : ServerSession) (x : ExchangeStep) → session server ≡ freshSession →
+    exchangeServed x reply₁ ≡ exchange.lent (exchanged (length reply) (session server) command []) reply → FreshHears command reply x reply₁
+fresh-hears command reply reply₁ server x ready e = e ∙ ap (λ s. exchange.lent (exchanged (length reply) s command []) reply) ready
 
 -- ATZ goes out
 pub reset-sent : (repeat : Bool) (out out₁ : List ℕ) (fresh : ClientSession) (i : StartStep) → length out ≡ sendRoom → client fresh ≡ freshClient true repeat →
@@ -52,9 +57,8 @@ module _ (repeat : Bool) (out out₁ : List ℕ) (i : StartStep) (size : length 
   next = ap (λ (v : Served Client (Unit {0})). v .next) started
 
   -- the server's echo and answer to it are one piece
-  module _ (reply reply₁ store out₂ store₁ : List ℕ) (server : ServerSession) (x : ExchangeStep) (r : code-turn.Turn) (large : length reply ≡ replyRoom)
-      (empty : store ≡ freshStore) (ready : session server ≡ freshSession)
-      (heard : exchangeServed x reply₁ ≡ exchange.lent (exchanged (length reply) (session server) (take (i .written) out₁) []) reply)
+  module _ (reply reply₁ store out₂ store₁ : List ℕ) (x : ExchangeStep) (r : code-turn.Turn) (large : length reply ≡ replyRoom) (empty : store ≡ freshStore)
+      (heard : FreshHears (take (i .written) out₁) reply x reply₁)
       (given : OnePiece (pieceLent (client (i .session)) (take (x .written) reply₁) store out₁) (x .session) r out₂ store₁) where
     abbrev step : PieceStep
     step = record { answer = r .answer; written = r .written; session = r .bench .client }
@@ -62,11 +66,11 @@ module _ (repeat : Bool) (out out₁ : List ℕ) (i : StartStep) (size : length 
     abbrev exchanges : Exchanged
     exchanges = exchanged replyRoom freshSession (starts .text) []
 
-    exchanges-is : exchanged (length reply) (session server) (take (i .written) out₁) [] ≡ exchanges
-    exchanges-is = λ j. exchanged (large j) (ready j) (command j) []
+    exchanges-is : exchanged (length reply) freshSession (take (i .written) out₁) [] ≡ exchanges
+    exchanges-is = λ j. exchanged (large j) freshSession (command j) []
 
     sent : take (x .written) reply₁ ≡ exchanges .text
-    sent = reply-text (session server) (take (i .written) out₁) [] reply reply₁ x heard ∙ ap (λ (v : Exchanged). v .text) exchanges-is
+    sent = reply-text freshSession (take (i .written) out₁) [] reply reply₁ x heard ∙ ap (λ (v : Exchanged). v .text) exchanges-is
 
     abbrev takes : Said Client Progress
     takes = pieceSays sendRoom (starts .next) (exchanges .text) freshStore
@@ -83,7 +87,7 @@ module _ (repeat : Bool) (out out₁ : List ℕ) (i : StartStep) (size : length 
     reset-does lengths =
         let v = pieceReceived step out₂ store₁ .served in
         let served : v ≡ lent takes out₁ = ap (λ (v : Received). v .served) received in
-        let s = ap session (given .waits) ∙ reply-next (session server) (take (i .written) out₁) [] reply reply₁ x heard ∙ ap (λ (v : Exchanged). v .next) exchanges-is in
+        let s = ap session (given .waits) ∙ reply-next freshSession (take (i .written) out₁) [] reply reply₁ x heard ∙ ap (λ (v : Exchanged). v .next) exchanges-is in
         record {
           answer = ap (λ (v : Received). v .served .answer) received;
           text = lent-text takes out₁ v served takes-fits;
@@ -91,7 +95,7 @@ module _ (repeat : Bool) (out out₁ : List ℕ) (i : StartStep) (size : length 
           inside = lent-inside takes out₁ v served takes-fits;
           room = (
             lent-length takes out₁ v served ∙ same-size,
-            reply-length (session server) (take (i .written) out₁) [] reply reply₁ x heard ∙ large,
+            reply-length freshSession (take (i .written) out₁) [] reply reply₁ x heard ∙ large,
           );
         }
 

@@ -130,16 +130,17 @@ left-start s lengths b place at buffer store (qs, h) p z =
 
 module _ {whole : Recorded} {s lengths : List ℕ} {b : code.Bench} {place at : ℕ} {buffer store : List ℕ} (l : Left whole s lengths b place at buffer store) where
   -- at the end nothing is left
-  pub left-end : length s ≤ place → recorded (record { answer = Complete; written = at }) buffer ≡ whole
+  left-end : length s ≤ place → recorded (record { answer = Complete; written = at }) buffer ≡ whole
   left-end h =
       let none = ahead-end s place (l .queries) (l .ahead) h in
       sym (l .rest ∙ ap (λ qs. lentFrom at (asked (length buffer - at) (benchOf b store lengths) qs) buffer) none ∙ recorded-same refl (omega arith) refl)
 
-  -- before the end a step finds a query
-  pub left-some : place < length s → (r : QueryStep) → queryStep r ≡ queryAt s place → OneOf (1 ∷ 2 ∷ []) (tagOf the-type r) → ⊥
-  left-some h (step.Query pids few count list next) e k = miss (1 ∷ 2 ∷ []) 0 tt k
-  left-some h step.End e k = omega (arith, step-end s place e refl)
-  left-some h step.Malformed e k = let none = step-none s place e refl in ahead-none s place (l .queries) (l .ahead) h (none .1)
+  -- and before the end a step finds a query
+  pub left-done : (r : QueryStep) → queryStep r ≡ queryAt s place → OneOf (1 ∷ 2 ∷ []) (tagOf the-type r) →
+      recorded (record { answer = Complete; written = at }) buffer ≡ whole
+  left-done (step.Query pids few count list next) e k = absurd (miss (1 ∷ 2 ∷ []) 0 tt k)
+  left-done step.End e k = left-end (step-end s place e refl)
+  left-done step.Malformed e k = let none = step-none s place e refl in absurd (ahead-none s place (l .queries) (l .ahead) (none .0) (none .1))
 
   -- a query has been asked, and r is what became of its part
   module _ (q : Query) (pids few count list next : ℕ) (w : QueryHere s place q pids few count list next) (p : PartStep) (values store₁ : List ℕ)

@@ -17,7 +17,8 @@ use Rattle.client_session.specs.declared.PieceAnswer.{PieceAnswer}
 use Rattle.client_session.specs.declared.FinishAnswer.{FinishAnswer}
 use Rattle.client_session.specs.Piece.{Progress, awaited, sent, over, complete, pieceAnswer, Received, pieceReceived}
 use Rattle.client_session.specs.Finish.{finishAnswer}
-use Rattle.exchange.specs.Exchange.{exchanged}
+use Rattle.exchange.specs.declared.ExchangeStep.{ExchangeStep}
+use Rattle.exchange.specs.Exchange.{exchanged, exchangeServed, lent}
 use Rattle.exchange.specs.Deliver.{Delivered}
 use Rattle.script.specs.Script.{Query, script}
 use Rattle.bench.specs.declared.Bench as code
@@ -42,6 +43,10 @@ resetFresh repeat lengths =
 -- the buffers have the sizes of the definition
 abbrev pub Room : List ℕ → List ℕ → Type 0
 Room out reply = (length out ≡ sendRoom) × (length reply ≡ replyRoom)
+
+-- a fresh server has heard a command
+abbrev pub FreshHears : List ℕ → List ℕ → ExchangeStep → List ℕ → Type 0
+FreshHears command reply x reply₁ = exchangeServed x reply₁ ≡ lent (exchanged (length reply) freshSession command []) reply
 
 -- The reply has been delivered, and the server waits.
 pub record Back (d : Delivered) (server : ServerSession) (r : code-turn.Turn) (out store lengths : List ℕ) : Type 0 where

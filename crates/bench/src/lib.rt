@@ -113,7 +113,7 @@ fn ask_all(
 {
     let mut cursor = ScriptCursor::new();
     let mut at: usize = 0;
-    while cursor.at < script.len() {
+    loop {
         let QueryStep::Query {
             pids,
             few,
@@ -122,7 +122,10 @@ fn ask_all(
             next,
         } = cursor.step(script)
         else {
-            return refused(5, at);
+            return BenchRun {
+                answer: RunAnswer::Complete,
+                written: at,
+            };
         };
         let pids_end = pids + few;
         let list_end = next.at;
@@ -143,10 +146,6 @@ fn ask_all(
         at = added.written;
         bench = part.bench;
         cursor = next;
-    }
-    BenchRun {
-        answer: RunAnswer::Complete,
-        written: at,
     }
 }
 

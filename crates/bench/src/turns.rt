@@ -4,6 +4,7 @@ use crate::Turn;
 use client_session::ClientSession;
 use client_session::PieceAnswer;
 use client_session::StartStep;
+use exchange::ExchangeStep;
 use server_session::ServerSession;
 ghost use mathlib.Core.Path.{_≡_};
 ghost use mathlib.Core.Bool.{true};
@@ -16,7 +17,7 @@ ghost use Rattle.client_session.specs.Start.{initSays, startServed};
 ghost use Rattle.client_session.specs.Piece.{pieceLent};
 ghost use Rattle.exchange.specs.Deliver.{delivered};
 ghost use Rattle.bench.specs.Run.{sendRoom, replyRoom, freshStore, turn, onward, initialised};
-ghost use Rattle.bench.specs.Steps.{isSent, benchOf, turnOf, resetFresh, Room, Back, OnePiece, Does, Comes};
+ghost use Rattle.bench.specs.Steps.{isSent, benchOf, turnOf, resetFresh, Room, FreshHears, Back, OnePiece, Does, Comes};
 
 // What the server sent goes back to the client in pieces.
 fn back(
@@ -119,6 +120,13 @@ fn send_reset(repeat: bool, out: &mut [u8]) -> StartStep
     fresh.init(out)
 }
 
+// The client's command at a fresh server.
+fn fresh_exchange(command: &[u8], reply: &mut [u8]) -> ExchangeStep
+    ensures { λ r. ⌜ FreshHears (now (command .entry)) (now (reply .entry)) r (now (reply .exit)) ⌝ }
+{
+    exchange::exchange(ServerSession::new(), command, b"", reply)
+}
+
 // What the server sent goes back to the client as one piece.
 fn one_piece(
     session: ClientSession,
@@ -151,7 +159,7 @@ fn reset(repeat: bool, out: &mut [u8], reply: &mut [u8], store: &mut [u8]) -> Tu
     let start = send_reset(repeat, out);
     let n = start.written;
     let waiting = start.session;
-    let heard = exchange::exchange(ServerSession::new(), &out[..n], b"", reply);
+    let heard = fresh_exchange(&out[..n], reply);
     let end = heard.written;
     let server = heard.session;
     one_piece(waiting, server, &reply[..end], out, store)

@@ -1,5 +1,5 @@
 -- `bench::ask_all` meets its contract.
-use Rattle.bench.proofs.LoopLaws.{Left, left-start, left-end, left-some, left-refused, left-next}
+use Rattle.bench.proofs.LoopLaws.{Left, left-start, left-done, left-refused, left-next}
 use Rattle.bench.specs.Steps.{benchOf, queriesIn}
 use Rattle.bench.specs.Run.{replyRoom, asked, Recorded, lent}
 use Rattle.script.proofs.StepLaws.{QueryHere, step-query}
@@ -34,7 +34,7 @@ whole s =
     lent (asked (length (s .args .buffer .now)) (benchOf (s .args .bench) (s .args .store .now) (s .args .lengths .now)) (queriesIn (s .args .script .now))) (s .args .buffer .now)
 
 abbrev turn : tie.After-known-told Inv-loop μ-loop → tie.At-loop Inv-loop μ-loop
-turn k = k .before .before .before .before .before .before
+turn k = k .before .before .before .before
 
 -- the query that a step found
 here : (k : tie.After-known-told Inv-loop μ-loop) → let g = k .before .pids .given .0 in
@@ -62,9 +62,6 @@ step-requires c κs = search needs
 enum-known-pids : tie.Need-enum-known-pids Inv-loop μ-loop
 enum-known-pids c = search needs
 
-refused-requires : tie.Need-refused-requires Inv-loop μ-loop
-refused-requires c κs = search needs
-
 same-length : tie.Need-same-length Inv-loop μ-loop
 same-length c = search needs
 
@@ -75,7 +72,7 @@ same-length-3 : tie.Need-same-length-3 Inv-loop μ-loop
 same-length-3 c = search needs
 
 returns : tie.Need-returns Inv-loop μ-loop
-returns c = absurd (left-some (c .before .before .before .before .before .loop .inv .0) (c .before .before .before .if1 .taken) (c .before .before .step .result) (c .before .before .step .ensures) (c .before .match .keys2))
+returns c = left-done (c .before .before .loop .inv .0) (c .before .step .result) (c .before .step .ensures) (c .match .keys2)
 
 add-pids-end : tie.Need-add-pids-end Inv-loop μ-loop
 add-pids-end c = omega (arith, here c .1 .room)
@@ -138,18 +135,6 @@ loop-again c =
       omega (arith, k .before .before .before .before .before .before .store .given, turn (found k) .loop .inv .3),
     )
 
-same-length-7 : tie.Need-same-length-7 Inv-loop μ-loop
-same-length-7 c = search needs
-
-same-length-8 : tie.Need-same-length-8 Inv-loop μ-loop
-same-length-8 c = search needs
-
-same-length-9 : tie.Need-same-length-9 Inv-loop μ-loop
-same-length-9 c = search needs
-
-returns-3 : tie.Need-returns-3 Inv-loop μ-loop
-returns-3 c = left-end (c .before .before .loop .inv .0) (c .if1 .left)
-
 pub ask-all-spec : {M : Type 1} → statement M
 ask-all-spec =
     tie.close
@@ -160,7 +145,6 @@ ask-all-spec =
     loop-holds
     step-requires
     enum-known-pids
-    refused-requires
     same-length
     same-length-2
     same-length-3
@@ -181,8 +165,4 @@ ask-all-spec =
     returns-2
     enum-told-2
     loop-less
-    loop-again
-    same-length-7
-    same-length-8
-    same-length-9
-    returns-3)
+    loop-again)

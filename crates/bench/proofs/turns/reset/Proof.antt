@@ -5,7 +5,7 @@ use native.Mathlib.Omega.{arith}
 use mathlib.Core.List.{[]}
 use lib.ListN.{length, take}
 use lib.Seq.{length-take-le}
-use Rattle.server_session.specs.Session.{session}
+use Rattle.server_session.specs.Session.{freshSession}
 use Rattle.bench.proofs.TurnLaws.{reply-inside}
 use Rattle.bench.proofs.InitLaws.{init-inside, reset-does}
 use borrow.Author.Needs.{needs}
@@ -19,30 +19,23 @@ started k =
     init-inside (s .args .repeat) (s .args .out .now) _ (k .send-reset .result) (s .pre .0 .0) (k .send-reset .ensures)
 
 -- what the server sent is inside its own
-sent : (k : tie.After-exchange) → k .exchange .result .written ≤ length (k .exchange .last .1 .1 .1 .0)
+sent : (k : tie.After-fresh-exchange) → k .fresh-exchange .result .written ≤ length (k .fresh-exchange .last .1 .0)
 sent k =
-    let n = k .before .before .before .before in
-    let i = n .before .before .before .before in
+    let i = k .before .before .before .before .before .before in
     let s = i .before .before .before .before .before in
-    reply-inside (session (n .new .result)) (take (i .send-reset .result .written) (i .send-reset .last .1 .0)) [] (s .args .reply .now) _ (k .exchange .result) (k .exchange .ensures)
+    reply-inside freshSession (take (i .send-reset .result .written) (i .send-reset .last .1 .0)) [] (s .args .reply .now) _ (k .fresh-exchange .result) (k .fresh-exchange .ensures)
 
 send-reset-requires : tie.Need-send-reset-requires
 send-reset-requires c κs = search needs
 
-new-requires : tie.Need-new-requires
-new-requires c κs = search needs
+slice-reshare-prefix-fresh-exchange : tie.Need-slice-reshare-prefix-fresh-exchange
+slice-reshare-prefix-fresh-exchange c = started (c .before .before .before)
 
-slice-reshare-prefix-exchange : tie.Need-slice-reshare-prefix-exchange
-slice-reshare-prefix-exchange c = started (c .before .before .before .before)
+slice-aggregate-fresh-exchange : tie.Need-slice-aggregate-fresh-exchange
+slice-aggregate-fresh-exchange c = sym (length-take-le _ _ (started (c .before .before .before .before)))
 
-slice-aggregate-exchange : tie.Need-slice-aggregate-exchange
-slice-aggregate-exchange c = sym (length-take-le _ _ (started (c .before .before .before .before .before)))
-
-slice-aggregate-exchange-2 : tie.Need-slice-aggregate-exchange-2
-slice-aggregate-exchange-2 c = search needs
-
-exchange-requires : tie.Need-exchange-requires
-exchange-requires c κs = search needs
+fresh-exchange-requires : tie.Need-fresh-exchange-requires
+fresh-exchange-requires c κs = search needs
 
 slice-reshare-prefix-one-piece : tie.Need-slice-reshare-prefix-one-piece
 slice-reshare-prefix-one-piece c = sent (c .before .before .before)
@@ -53,35 +46,32 @@ slice-aggregate-one-piece c = sym (length-take-le _ _ (sent (c .before .before .
 one-piece-requires : tie.Need-one-piece-requires
 one-piece-requires c κs = search needs
 
+returns : tie.Need-returns
+returns c =
+    let p = c .before .before .before .before in
+    let x = p .before .before .before .before .before .before .before in
+    let i = x .before .before .before .before .before .before in
+    let s = i .before .before .before .before .before in
+    reset-does (s .args .repeat) (s .args .out .now) _ (i .send-reset .result) (s .pre .0 .0) (i .send-reset .ensures) (s .args .reply .now) _ (s .args .store .now) _ _
+    (x .fresh-exchange .result) (p .one-piece .result) (s .pre .0 .1) (s .pre .1) (x .fresh-exchange .ensures) (p .one-piece .ensures)
+
+same-length : tie.Need-same-length
+same-length c = omega (arith, returns c [] .room .0, c .before .before .before .before .before .before .before .before .before .before .before .before .before .before .before .before .before .before .before .before .before .before .pre .0 .0)
+
 same-length-2 : tie.Need-same-length-2
 same-length-2 c = search needs
 
 same-length-3 : tie.Need-same-length-3
 same-length-3 c = search needs
 
-returns : tie.Need-returns
-returns c =
-    let p = c .before .before .before .before in
-    let x = p .before .before .before .before .before .before .before in
-    let n = x .before .before .before .before in
-    let i = n .before .before .before .before in
-    let s = i .before .before .before .before .before in
-    reset-does (s .args .repeat) (s .args .out .now) _ (i .send-reset .result) (s .pre .0 .0) (i .send-reset .ensures) (s .args .reply .now) _ (s .args .store .now) _ _
-    (n .new .result) (x .exchange .result) (p .one-piece .result) (s .pre .0 .1) (s .pre .1) (n .new .ensures) (x .exchange .ensures) (p .one-piece .ensures)
-
-same-length : tie.Need-same-length
-same-length c = omega (arith, returns c [] .room .0, c .before .before .before .before .before .before .before .before .before .before .before .before .before .before .before .before .before .before .before .before .before .before .before .before .pre .0 .0)
-
 pub reset-spec : {M : Type 1} → statement M
 reset-spec =
     tie.close
     (tie.spec
     send-reset-requires
-    new-requires
-    slice-reshare-prefix-exchange
-    slice-aggregate-exchange
-    slice-aggregate-exchange-2
-    exchange-requires
+    slice-reshare-prefix-fresh-exchange
+    slice-aggregate-fresh-exchange
+    fresh-exchange-requires
     slice-reshare-prefix-one-piece
     slice-aggregate-one-piece
     one-piece-requires
