@@ -141,7 +141,17 @@ fn run_bench(
     driver::driver_bench(repeat, script, pieces, &mut out[..size], log)
 }
 
-// Runs a case by its kind, and answers the length of its log.
+// Whether the client session of a kind asks for CAN headers: 3 and 5 of 2 to 5.
+fn asks_framing(kind: u8) -> bool {
+    match kind {
+        3 => true,
+        5 => true,
+        _ => false,
+    }
+}
+
+// Runs a case by its kind, and answers the length of its log. 1 is a server session, 2 to 5 a client session, of which 4 and 5 repeat queries, and the others are
+// bench runs, with repeat but for 6.
 fn run(
     kind: u8,
     room: usize,
@@ -151,15 +161,14 @@ fn run(
     out: &mut [u8],
     log: &mut [u8],
 ) -> usize {
-    match kind {
-        1 => driver::driver_server(script, 0, b"", out, log),
-        2 => driver::driver_client(false, false, script, 0, b"", store, out, log),
-        3 => driver::driver_client(true, false, script, 0, b"", store, out, log),
-        4 => driver::driver_client(false, true, script, 0, b"", store, out, log),
-        5 => driver::driver_client(true, true, script, 0, b"", store, out, log),
-        6 => run_bench(false, room, pieces, script, out, log),
-        _ => run_bench(true, room, pieces, script, out, log),
+    if kind == 1 {
+        return driver::driver_server(script, 0, b"", out, log);
     }
+    if kind < 6 {
+        let framing = asks_framing(kind);
+        return driver::driver_client(framing, 4 <= kind, script, 0, b"", store, out, log);
+    }
+    run_bench(kind != 6, room, pieces, script, out, log)
 }
 
 fn replay(
