@@ -10,7 +10,7 @@ use Rattle.wire.specs.Call.{Said, lent}
 use Rattle.wire.specs.Text.{ascii, joined}
 use Rattle.pid.specs.Lengths.{mode01Lengths}
 use Rattle.server_state.specs.declared.FeatureSupport.the-variants as support
-use Rattle.server_state.specs.State.{fresh, countIn, withFraming, withRepeat, withMulti}
+use Rattle.server_state.specs.State.{fresh, countIn, withRepeat, withMulti}
 use Rattle.client_session.specs.declared.Under.the-variants as under
 use Rattle.client_session.specs.declared.ClientSession.{ClientSession}
 use Rattle.client_session.specs.declared.StartAnswer.the-variants as start
@@ -124,7 +124,7 @@ client =
     example "the piece that is left" (fed 80 (asking .next) emptyStore inPieces .left) (ascii "x" ∷ []) ∷
     example "the pieces joined" (joined inPieces) (ascii "410C1AF8\r\r>x") ∷
     example "a reply of 300 bytes cut by the lengths 3, 0, 200 and 1" (map (λ (p : List ℕ). length p) (pieces (3 ∷ 0 ∷ 200 ∷ 1 ∷ []) (replicate 300 65))) (3 ∷ 128 ∷ 128 ∷ 1 ∷ 40 ∷ []) ∷
-    example "what is set and learned on the peer" (withMulti (withRepeat (withFraming (fresh true) true) support.No) support.Yes)
-    (record { framing = true; repeat = support.No; «multi_pid» = support.Yes; «pid_lengths» = mode01Lengths; «ecu_counts» = replicate 256 0 }) ∷
+    example "what is set and learned on the peer" (withMulti (withRepeat (fresh true) support.No) support.Yes)
+    (record { framing = false; repeat = support.No; «multi_pid» = support.Yes; «pid_lengths» = mode01Lengths; «ecu_counts» = replicate 256 0 }) ∷
     example "counts of none, 1 and 255, as a query has them" (map (countIn (0 ∷ 1 ∷ 255 ∷ [])) (0 ∷ 1 ∷ 2 ∷ [])) (0 ∷ 2 ∷ 256 ∷ []) ∷
     []
