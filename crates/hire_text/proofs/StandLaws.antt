@@ -34,7 +34,7 @@ SaysPart f (refused n) = Unit {0}
 SaysPart f (result n) = IsPart (groupBytes n ++ f .text)
 
 -- the order of an answer keeps the number of values, and each can be read back
-ordered-part : (vs : List Value) → ValuesFit vs → IsPart (groupBytes (length vs) ++ valuesBytes (answerOrder vs))
+ordered-part : (vs : List Value) → ValuesFit vs → IsPart (groupBytes (length (answerOrder vs)) ++ valuesBytes (answerOrder vs))
 unfolding answerOrder
 ordered-part vs h = λ rest. (vs, part-back vs rest h)
 
