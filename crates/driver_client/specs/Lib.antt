@@ -1,2 +1,1 @@
 pub mod Client
-pub mod Steps

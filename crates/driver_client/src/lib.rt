@@ -3,43 +3,29 @@ use client_session::ClientSession;
 use client_session::Failure;
 use client_session::FinishAnswer;
 use client_session::PieceAnswer;
-use client_session::PieceStep;
 use client_session::StartAnswer;
-use client_session::StartStep;
 use client_session::Under;
 use pid::DataLength;
 use query::EcuCount;
 use server_state::FeatureSupport;
 use server_state::ServerState;
 ghost use mathlib.Core.Path.{_≡_};
-ghost use mathlib.Core.Bool.{not};
-ghost use lib.Dec.{eqb};
-ghost use lib.ListN.{length, take, drop};
-ghost use Rattle.wire.specs.Call.{lent};
+ghost use lib.ListN.{take, drop};
 ghost use Rattle.wire.specs.Put.{Put};
 ghost use Rattle.pid.specs.Lengths.{dataLength};
 ghost use Rattle.query.specs.Query.{countOf};
 ghost use Rattle.client_session.specs.Session.{client, freshClient};
-ghost use Rattle.client_session.specs.Start.{startAnswer, startServed};
-ghost use Rattle.client_session.specs.Piece.{pieceAnswer, isWrite, pieceReceived};
+ghost use Rattle.client_session.specs.Start.{startAnswer};
+ghost use Rattle.client_session.specs.Piece.{pieceAnswer};
 ghost use Rattle.client_session.specs.Finish.{finishAnswer};
 ghost use Rattle.driver_log.specs.Log.{textEntry};
-ghost use Rattle.driver_log.specs.Script.{rounds};
-ghost use Rattle.driver_client.specs.Client.{startCode, pieceCode, finishCode, finishCount, supportCode, underCode, lengthNumber, pidsEntry, stateEntry, countGiven, clientCall, clientTurn, clientAt, clientRun, storedOf, storedAs};
-ghost use Rattle.driver_client.specs.Steps.{groupOf, turnOf, startSays, startTurn, pieceSaid, pieceTurn, finishTurn, shownEntry};
+ghost use Rattle.driver_log.specs.Script.{calls, rounds};
+ghost use Rattle.driver_client.specs.Client.{startCode, pieceCode, finishCode, finishCount, supportCode, underCode, lengthNumber, pidsEntry, stateEntry, countGiven, rareCall, clientCall, clientTurn, clientAt, clientRun, storedOf, storedAs};
 
 // A session after some calls of a script, and the position in the log after their entries.
 struct ClientTurn {
     session: ClientSession,
     at: usize,
-}
-
-// The calls that are made and logged alike.
-enum Group {
-    Start,
-    Piece,
-    Finish,
-    Show,
 }
 
 // The codes of answers: a number of document 01 as itself, and a result as 64 or more.
@@ -210,162 +196,136 @@ fn put_reply(session: ClientSession, store: &[u8], log: &mut [u8], at: usize) ->
     driver_log::put_text(log, at, &store[..size])
 }
 
-// Which of the steps below makes a call of some kind.
-fn group_of(kind: u8) -> Group
-    ensures { λ r. ⌜ r ≡ groupOf kind ⌝ }
-{
-    match kind {
-        1 => Group::Start,
-        2 => Group::Start,
-        3 => Group::Start,
-        4 => Group::Piece,
-        5 => Group::Finish,
-        6 => Group::Start,
-        7 => Group::Start,
-        8 => Group::Piece,
-        9 => Group::Piece,
-        _ => Group::Show,
-    }
-}
-
-// A call that starts something.
-fn start_call(session: ClientSession, kind: u8, arg: &[u8], out: &mut [u8]) -> StartStep
-    ensures { λ r. ⌜ startServed r (now (out .exit)) ≡ lent (startSays (length (now (out .entry))) (client session) kind (now (arg .entry))) (now (out .entry)) ⌝ }
-{
-    match kind {
-        1 => session.command(arg, out),
-        2 => session.query_pid(driver_log::byte_of(arg, 0), count_given(arg), out),
-        3 => session.query_pids(arg, EcuCount::Any, out),
-        6 => session.init(out),
-        _ => {
-            let count = EcuCount::Given(driver_log::byte_of(arg, 0));
-            session.query_pids(after_first(arg), count, out)
-        }
-    }
-}
-
-fn start(turn: ClientTurn, kind: u8, arg: &[u8], out: &mut [u8], log: &mut [u8]) -> ClientTurn
-    ensures { λ r. ⌜ turnOf r (now (out .exit)) (now (log .exit)) ≡ startTurn (turnOf turn (now (out .entry)) (now (log .entry))) kind (now (arg .entry)) ⌝ }
-{
-    let step = start_call(turn.session, kind, arg, out);
-    let answer = step.answer;
-    let next = step.session;
-    ClientTurn {
-        session: next,
-        at: driver_log::put_call(log, turn.at, start_code(answer), 0, out, step.written),
-    }
-}
-
-fn failure_of(kind: u8) -> Failure
-    ensures { λ r. ⌜ isWrite r ≡ not (eqb kind 8) ⌝ }
-{
-    if kind == 8 {
-        return Failure::Read;
-    }
-    Failure::Write
-}
-
-// A piece of a reply, or a failure.
-fn piece_call(
+// A call that is made more rarely.
+fn rare(
     session: ClientSession,
     kind: u8,
     arg: &[u8],
-    store: &mut [u8],
-    out: &mut [u8],
-) -> PieceStep
-    ensures { λ r. ⌜ pieceReceived r (now (out .exit)) (now (store .exit)) ≡ pieceSaid (client session) kind (now (arg .entry)) (now (store .entry)) (now (out .entry)) ⌝ }
-{
-    if kind == 4 {
-        return session.piece(arg, store, out);
-    }
-    session.failure(failure_of(kind), out)
-}
-
-fn piece(
-    turn: ClientTurn,
-    kind: u8,
-    arg: &[u8],
-    store: &mut [u8],
+    store: &[u8],
     out: &mut [u8],
     log: &mut [u8],
+    at: usize,
 ) -> ClientTurn
-    ensures { λ r. ⌜ clientTurn r (now (store .exit)) (now (out .exit)) (now (log .exit)) ≡ pieceTurn (clientTurn turn (now (store .entry)) (now (out .entry)) (now (log .entry))) kind (now (arg .entry)) ⌝ }
+    ensures { λ r. ⌜ clientTurn r (now (store .entry)) (now (out .exit)) (now (log .exit)) ≡ rareCall (clientAt (client session) at (now (store .entry)) (now (out .entry)) (now (log .entry))) kind (now (arg .entry)) ⌝ }
 {
-    let step = piece_call(turn.session, kind, arg, store, out);
-    let answer = step.answer;
-    let next = step.session;
-    ClientTurn {
-        session: next,
-        at: driver_log::put_call(log, turn.at, piece_code(answer), 0, out, step.written),
+    match kind {
+        6 => {
+            let step = session.init(out);
+            let answer = step.answer;
+            let next = step.session;
+            ClientTurn {
+                session: next,
+                at: driver_log::put_call(log, at, start_code(answer), 0, out, step.written),
+            }
+        }
+        7 => {
+            let count = EcuCount::Given(driver_log::byte_of(arg, 0));
+            let step = session.query_pids(after_first(arg), count, out);
+            let answer = step.answer;
+            let next = step.session;
+            ClientTurn {
+                session: next,
+                at: driver_log::put_call(log, at, start_code(answer), 0, out, step.written),
+            }
+        }
+        8 => {
+            let step = session.failure(Failure::Read, out);
+            let answer = step.answer;
+            let next = step.session;
+            ClientTurn {
+                session: next,
+                at: driver_log::put_call(log, at, piece_code(answer), 0, out, step.written),
+            }
+        }
+        9 => {
+            let step = session.failure(Failure::Write, out);
+            let answer = step.answer;
+            let next = step.session;
+            ClientTurn {
+                session: next,
+                at: driver_log::put_call(log, at, piece_code(answer), 0, out, step.written),
+            }
+        }
+        10 => ClientTurn {
+            session,
+            at: put_reply(session, store, log, at),
+        },
+        _ => ClientTurn {
+            session,
+            at: put_state(session, arg, log, at),
+        },
     }
 }
 
-fn finish(turn: ClientTurn, store: &[u8], out: &mut [u8], log: &mut [u8]) -> ClientTurn
-    ensures { λ r. ⌜ clientTurn r (now (store .entry)) (now (out .exit)) (now (log .exit)) ≡ finishTurn (clientTurn turn (now (store .entry)) (now (out .entry)) (now (log .entry))) ⌝ }
-{
-    let step = turn.session.finish(store, out);
-    let answer = step.answer;
-    let next = step.session;
-    let code = finish_code(answer);
-    let count = finish_count(answer);
-    ClientTurn {
-        session: next,
-        at: driver_log::put_call(log, turn.at, code, count, out, step.written),
-    }
-}
-
-// The entry of the reply so far, or of the state.
-fn show(turn: ClientTurn, kind: u8, arg: &[u8], store: &[u8], log: &mut [u8]) -> ClientTurn
-    ensures { λ r. ⌜ (r .session ≡ turn .session) × Put (now (log .entry)) (turn .at) (shownEntry (client (turn .session)) kind (now (arg .entry)) (now (store .entry))) (r .at) (now (log .exit)) ⌝ }
-{
-    let mut turn = turn;
-    if kind == 10 {
-        turn.at = put_reply(turn.session, store, log, turn.at);
-        return turn;
-    }
-    turn.at = put_state(turn.session, arg, log, turn.at);
-    turn
-}
-
-// A call by its kind, and its entry.
-fn call(
-    turn: ClientTurn,
-    kind: u8,
-    arg: &[u8],
-    store: &mut [u8],
-    out: &mut [u8],
-    log: &mut [u8],
-) -> ClientTurn
-    ensures { λ r. ⌜ clientTurn r (now (store .exit)) (now (out .exit)) (now (log .exit)) ≡ clientCall (clientTurn turn (now (store .entry)) (now (out .entry)) (now (log .entry))) kind (now (arg .entry)) ⌝ }
-{
-    match group_of(kind) {
-        Group::Start => start(turn, kind, arg, out, log),
-        Group::Piece => piece(turn, kind, arg, store, out, log),
-        Group::Finish => finish(turn, store, out, log),
-        Group::Show => show(turn, kind, arg, store, log),
-    }
-}
-
-// The calls of a script, one after the other, logged from the start of the log.
+// The calls of a script, one after the other.
 fn run(
-    turn: ClientTurn,
+    session: ClientSession,
     script: &[u8],
     store: &mut [u8],
     out: &mut [u8],
     log: &mut [u8],
 ) -> ClientTurn
-    ensures { λ r. ⌜ clientTurn r (now (store .exit)) (now (out .exit)) (now (log .exit)) ≡ clientRun (now (script .entry)) (clientTurn turn (now (store .entry)) (now (out .entry)) (now (log .entry))) ⌝ }
+    ensures { λ r. ⌜ clientTurn r (now (store .exit)) (now (out .exit)) (now (log .exit)) ≡ calls clientCall (clientAt (client session) 0 (now (store .entry)) (now (out .entry)) (now (log .entry))) (now (script .entry)) ⌝ }
 {
-    let mut turn = turn;
-    turn.at = 0;
+    let mut session = session;
     let mut from: usize = 0;
+    let mut at: usize = 0;
     while 3 <= script.len() - from {
         let start = from + 3;
         let end = start + driver_log::argument_size(script, from);
-        turn = call(turn, script[from], &script[start..end], store, out, log);
+        let kind = script[from];
         from = end;
+        match kind {
+            1 => {
+                let step = session.command(&script[start..end], out);
+                let answer = step.answer;
+                session = step.session;
+                at = driver_log::put_call(log, at, start_code(answer), 0, out, step.written);
+            }
+            2 => {
+                let count = count_given(&script[start..end]);
+                let step = session.query_pid(
+                    driver_log::byte_of(&script[start..end], 0),
+                    count,
+                    out,
+                );
+                let answer = step.answer;
+                session = step.session;
+                at = driver_log::put_call(log, at, start_code(answer), 0, out, step.written);
+            }
+            3 => {
+                let step = session.query_pids(&script[start..end], EcuCount::Any, out);
+                let answer = step.answer;
+                session = step.session;
+                at = driver_log::put_call(log, at, start_code(answer), 0, out, step.written);
+            }
+            4 => {
+                let step = session.piece(&script[start..end], store, out);
+                let answer = step.answer;
+                session = step.session;
+                at = driver_log::put_call(log, at, piece_code(answer), 0, out, step.written);
+            }
+            5 => {
+                let step = session.finish(store, out);
+                let answer = step.answer;
+                session = step.session;
+                at = driver_log::put_call(
+                    log,
+                    at,
+                    finish_code(answer),
+                    finish_count(answer),
+                    out,
+                    step.written,
+                );
+            }
+            _ => {
+                let turn = rare(session, kind, &script[start..end], store, out, log, at);
+                session = turn.session;
+                at = turn.at;
+            }
+        }
     }
-    turn
+    ClientTurn { session, at }
 }
 
 // A script on a client session that asks for CAN headers and repeats queries as told, and then another one for so many rounds. Each round goes on with the session that
@@ -382,14 +342,10 @@ pub fn run_rounds(
 ) -> usize
     ensures { λ r. ⌜ storedAs r (now (store .exit)) (now (out .exit)) (now (log .exit)) ≡ storedOf (rounds (clientRun (now (again .entry))) times (clientRun (now (script .entry)) (clientAt (freshClient framing repeat) 0 (now (store .entry)) (now (out .entry)) (now (log .entry))))) ⌝ }
 {
-    let fresh = ClientTurn {
-        session: ClientSession::new(framing, repeat),
-        at: 0,
-    };
-    let mut turn = run(fresh, script, store, out, log);
+    let mut turn = run(ClientSession::new(framing, repeat), script, store, out, log);
     let mut round: usize = 0;
     while round < times {
-        turn = run(turn, again, store, out, log);
+        turn = run(turn.session, again, store, out, log);
         round += 1;
     }
     turn.at

@@ -1,2 +1,1 @@
 pub mod Server
-pub mod Steps

@@ -2,34 +2,22 @@
 use client_state::ClientState;
 use server_session::ByteAnswer;
 use server_session::Phase;
-use server_session::ReplyStep;
 use server_session::ServerAnswer;
 use server_session::ServerSession;
 ghost use mathlib.Core.Path.{_≡_};
-ghost use lib.ListN.{length};
-ghost use Rattle.wire.specs.Call.{lent};
 ghost use Rattle.wire.specs.Put.{Put};
 ghost use Rattle.client_state.specs.Settings.{settings};
 ghost use Rattle.server_session.specs.Session.{session, freshSession};
 ghost use Rattle.server_session.specs.Bytes.{byteAnswer};
-ghost use Rattle.server_session.specs.Replies.{serverAnswer, replyServed};
+ghost use Rattle.server_session.specs.Replies.{serverAnswer};
 ghost use Rattle.driver_log.specs.Log.{textEntry, loggedOf, loggedAs};
-ghost use Rattle.driver_log.specs.Script.{rounds};
-ghost use Rattle.driver_server.specs.Server.{byteCode, sentCode, phaseCode, stateEntry, serverCall, serverTurn, serverAt, serverRun};
-ghost use Rattle.driver_server.specs.Steps.{groupOf, byteTurn, bytesTurn, sentSays, sentTurn};
+ghost use Rattle.driver_log.specs.Script.{calls, rounds};
+ghost use Rattle.driver_server.specs.Server.{byteCode, sentCode, phaseCode, stateEntry, rareCall, serverCall, serverTurn, serverAt, serverRun};
 
 // A session after some calls of a script, and the position in the log after their entries.
 struct ServerTurn {
     session: ServerSession,
     at: usize,
-}
-
-// The calls that are made and logged alike.
-enum Group {
-    Byte,
-    Bytes,
-    Sent,
-    Show,
 }
 
 // The codes of answers: a number of document 01 as itself, and a result as 64 or more.
@@ -105,105 +93,98 @@ fn put_state(server: ServerSession, log: &mut [u8], at: usize) -> usize
     put_line(server, log, at)
 }
 
-// Which of the steps below makes a call of some kind.
-fn group_of(kind: u8) -> Group
-    ensures { λ r. ⌜ r ≡ groupOf kind ⌝ }
+// A call that is made more rarely.
+fn rare(
+    server: ServerSession,
+    kind: u8,
+    arg: &[u8],
+    out: &mut [u8],
+    log: &mut [u8],
+    at: usize,
+) -> ServerTurn
+    ensures { λ r. ⌜ serverTurn r (now (out .exit)) (now (log .exit)) ≡ rareCall (serverAt (session server) at (now (out .entry)) (now (log .entry))) kind (now (arg .entry)) ⌝ }
 {
     match kind {
-        1 => Group::Byte,
-        2 => Group::Bytes,
-        3 => Group::Sent,
-        4 => Group::Sent,
-        5 => Group::Sent,
-        6 => Group::Sent,
-        _ => Group::Show,
+        5 => {
+            let step = server.reject(arg, out);
+            let answer = step.answer;
+            let next = step.session;
+            ServerTurn {
+                session: next,
+                at: driver_log::put_call(log, at, sent_code(answer), 0, out, step.written),
+            }
+        }
+        6 => {
+            let step = server.answer(arg, b"ELM327", out);
+            let answer = step.answer;
+            let next = step.session;
+            ServerTurn {
+                session: next,
+                at: driver_log::put_call(log, at, sent_code(answer), 0, out, step.written),
+            }
+        }
+        _ => ServerTurn {
+            session: server,
+            at: put_state(server, log, at),
+        },
     }
 }
 
-fn byte(turn: ServerTurn, arg: &[u8], out: &mut [u8], log: &mut [u8]) -> ServerTurn
-    ensures { λ r. ⌜ serverTurn r (now (out .exit)) (now (log .exit)) ≡ byteTurn (serverTurn turn (now (out .entry)) (now (log .entry))) (now (arg .entry)) ⌝ }
+// The calls of a script, one after the other.
+fn run(server: ServerSession, script: &[u8], out: &mut [u8], log: &mut [u8]) -> ServerTurn
+    ensures { λ r. ⌜ serverTurn r (now (out .exit)) (now (log .exit)) ≡ calls serverCall (serverAt (session server) 0 (now (out .entry)) (now (log .entry))) (now (script .entry)) ⌝ }
 {
-    let step = turn.session.byte(driver_log::byte_of(arg, 0), out);
-    let answer = step.answer;
-    let next = step.session;
-    ServerTurn {
-        session: next,
-        at: driver_log::put_call(log, turn.at, byte_code(answer), 0, out, step.written),
-    }
-}
-
-fn bytes(turn: ServerTurn, arg: &[u8], out: &mut [u8], log: &mut [u8]) -> ServerTurn
-    ensures { λ r. ⌜ serverTurn r (now (out .exit)) (now (log .exit)) ≡ bytesTurn (serverTurn turn (now (out .entry)) (now (log .entry))) (now (arg .entry)) ⌝ }
-{
-    let step = turn.session.bytes(arg, out);
-    let answer = step.answer;
-    let next = step.session;
-    let code = byte_code(answer);
-    ServerTurn {
-        session: next,
-        at: driver_log::put_call(log, turn.at, code, step.taken, out, step.written),
-    }
-}
-
-// A call that answers a command.
-fn sent_call(server: ServerSession, kind: u8, arg: &[u8], out: &mut [u8]) -> ReplyStep
-    ensures { λ r. ⌜ replyServed r (now (out .exit)) ≡ lent (sentSays (length (now (out .entry))) (session server) kind (now (arg .entry))) (now (out .entry)) ⌝ }
-{
-    match kind {
-        3 => server.reply(arg, out),
-        4 => server.answer(b"ELM327 v1.5", arg, out),
-        5 => server.reject(arg, out),
-        _ => server.answer(arg, b"ELM327", out),
-    }
-}
-
-fn sent(turn: ServerTurn, kind: u8, arg: &[u8], out: &mut [u8], log: &mut [u8]) -> ServerTurn
-    ensures { λ r. ⌜ serverTurn r (now (out .exit)) (now (log .exit)) ≡ sentTurn (serverTurn turn (now (out .entry)) (now (log .entry))) kind (now (arg .entry)) ⌝ }
-{
-    let step = sent_call(turn.session, kind, arg, out);
-    let answer = step.answer;
-    let next = step.session;
-    ServerTurn {
-        session: next,
-        at: driver_log::put_call(log, turn.at, sent_code(answer), 0, out, step.written),
-    }
-}
-
-// The entry of the state.
-fn show(turn: ServerTurn, log: &mut [u8]) -> ServerTurn
-    ensures { λ r. ⌜ (r .session ≡ turn .session) × Put (now (log .entry)) (turn .at) (stateEntry (session (turn .session))) (r .at) (now (log .exit)) ⌝ }
-{
-    let mut turn = turn;
-    turn.at = put_state(turn.session, log, turn.at);
-    turn
-}
-
-// A call by its kind, and its entry.
-fn call(turn: ServerTurn, kind: u8, arg: &[u8], out: &mut [u8], log: &mut [u8]) -> ServerTurn
-    ensures { λ r. ⌜ serverTurn r (now (out .exit)) (now (log .exit)) ≡ serverCall (serverTurn turn (now (out .entry)) (now (log .entry))) kind (now (arg .entry)) ⌝ }
-{
-    match group_of(kind) {
-        Group::Byte => byte(turn, arg, out, log),
-        Group::Bytes => bytes(turn, arg, out, log),
-        Group::Sent => sent(turn, kind, arg, out, log),
-        Group::Show => show(turn, log),
-    }
-}
-
-// The calls of a script, one after the other, logged from the start of the log.
-fn run(turn: ServerTurn, script: &[u8], out: &mut [u8], log: &mut [u8]) -> ServerTurn
-    ensures { λ r. ⌜ serverTurn r (now (out .exit)) (now (log .exit)) ≡ serverRun (now (script .entry)) (serverTurn turn (now (out .entry)) (now (log .entry))) ⌝ }
-{
-    let mut turn = turn;
-    turn.at = 0;
+    let mut server = server;
     let mut from: usize = 0;
+    let mut at: usize = 0;
     while 3 <= script.len() - from {
         let start = from + 3;
         let end = start + driver_log::argument_size(script, from);
-        turn = call(turn, script[from], &script[start..end], out, log);
+        let kind = script[from];
         from = end;
+        match kind {
+            1 => {
+                let step = server.byte(driver_log::byte_of(&script[start..end], 0), out);
+                let answer = step.answer;
+                server = step.session;
+                at = driver_log::put_call(log, at, byte_code(answer), 0, out, step.written);
+            }
+            2 => {
+                let step = server.bytes(&script[start..end], out);
+                let answer = step.answer;
+                server = step.session;
+                at = driver_log::put_call(
+                    log,
+                    at,
+                    byte_code(answer),
+                    step.taken,
+                    out,
+                    step.written,
+                );
+            }
+            3 => {
+                let step = server.reply(&script[start..end], out);
+                let answer = step.answer;
+                server = step.session;
+                at = driver_log::put_call(log, at, sent_code(answer), 0, out, step.written);
+            }
+            4 => {
+                let step = server.answer(b"ELM327 v1.5", &script[start..end], out);
+                let answer = step.answer;
+                server = step.session;
+                at = driver_log::put_call(log, at, sent_code(answer), 0, out, step.written);
+            }
+            _ => {
+                let turn = rare(server, kind, &script[start..end], out, log, at);
+                server = turn.session;
+                at = turn.at;
+            }
+        }
     }
-    turn
+    ServerTurn {
+        session: server,
+        at,
+    }
 }
 
 // A script on a server session, and then another one for so many rounds. Each round goes on with the session that the one before it left; the script and each round
@@ -217,14 +198,10 @@ pub fn run_rounds(
 ) -> usize
     ensures { λ r. ⌜ loggedAs r (now (out .exit)) (now (log .exit)) ≡ loggedOf (rounds (serverRun (now (again .entry))) times (serverRun (now (script .entry)) (serverAt freshSession 0 (now (out .entry)) (now (log .entry))))) ⌝ }
 {
-    let fresh = ServerTurn {
-        session: ServerSession::new(),
-        at: 0,
-    };
-    let mut turn = run(fresh, script, out, log);
+    let mut turn = run(ServerSession::new(), script, out, log);
     let mut round: usize = 0;
     while round < times {
-        turn = run(turn, again, out, log);
+        turn = run(turn.session, again, out, log);
         round += 1;
     }
     turn.at

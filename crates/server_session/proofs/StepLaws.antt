@@ -13,7 +13,7 @@ use Rattle.wire.specs.Put.{Put}
 use Rattle.wire.specs.Text.{ascii}
 use Rattle.client_state.specs.Settings.{Settings, settings}
 use Rattle.reply.specs.Shape.{chipReply}
-use Rattle.wire.proofs.Cases.{from-no, by-test}
+use Rattle.wire.proofs.Cases.{from-no}
 use Rattle.wire.proofs.PutLaws.{put-none, put-then, put-whole}
 use Rattle.wire.proofs.ListLaws.{take-cut}
 use Rattle.server_session.specs.declared.Phase.{Phase}
@@ -26,7 +26,7 @@ use Rattle.server_session.specs.declared.ByteAnswer.{ByteAnswer}
 use Rattle.server_session.specs.declared.ByteAnswer.the-variants as answer
 use Rattle.server_session.specs.Session.{Session, session}
 use Rattle.server_session.specs.Bytes.{canonical, byteNumber, withLine, echoed, commandPhase, emptyLine, lineEnd, byteSays, byteAnswer, byteServed, ServedBytes, bytesServed}
-use Rattle.server_session.specs.Steps.{Does, Serves, Shows, shown, left, after, numbered, goesOn}
+use Rattle.server_session.specs.Steps.{Does, Serves, Shows, shown, left, numbered, goesOn}
 use Rattle.server_session.proofs.ByteLaws.{number-none, numbered-on, numbered-off, says-taken, says-refused, empty-none, empty-last, line-empty, line-command, afterText, taken-cr, taken-lf, taken-plain}
 
 -- as many bytes of a line count as it has
@@ -115,25 +115,18 @@ pub self-shows : (self : ServerSession) → length (self .state .«last_obd_comm
     Shows (settings (self .state)) (record { echo = self .state .«echo_enabled»; linefeeds = self .state .«linefeeds_enabled»; last = min (self .state .«last_len») 128 })
 self-shows self k = record { echo = refl; linefeeds = refl; last = line-size (self .state .«last_len») (self .state .«last_obd_command») k }
 
--- the session with another turn
-abbrev turned : ServerSession → Turn → ServerSession
-turned s t = record { state = s .state; line = s .line; turn = t }
+module _ (self : ServerSession) (d : Did) (line : List ℕ) (again : d .repeat ≡ true → d .turn .len ≡ length (settings (self .state) .last)) (next : ServerSession) where
+  abbrev pub turned : ServerSession
+  turned = record { state = next .state; line = next .line; turn = d .turn }
 
-module _ (self : ServerSession) (d : Did) (next : ServerSession) {t : Turn} where
-  pub after-last : d .repeat ≡ true → next ≡ record { state = self .state; line = self .state .«last_obd_command»; turn = t } → turned next (d .turn) ≡ after self d
-  after-last e q = rw e (ap (λ (x : ServerSession). turned x (d .turn)) q)
+  pub left-last : {t : Turn} → d .repeat ≡ true → next ≡ record { state = self .state; line = self .state .«last_obd_command»; turn = t } → session turned ≡ left d (settings (self .state)) line
+  left-last e q =
+      let all : take (d .turn .len) (self .state .«last_obd_command») ≡ settings (self .state) .last = rw (again e) (take-cut (self .state .«last_len») (self .state .«last_obd_command»)) in
+      ap (λ (x : ServerSession). session (record { state = x .state; line = x .line; turn = d .turn })) q ∙
+      rw e (λ i. record { state = settings (self .state); line = all i; phase = d .turn .phase })
 
-  pub after-line : d .repeat ≡ false → next ≡ record { state = self .state; line = self .line; turn = t } → turned next (d .turn) ≡ after self d
-  after-line e q = rw e (ap (λ (x : ServerSession). turned x (d .turn)) q)
-
-pub after-left : (self : ServerSession) (d : Did) (line : List ℕ) → (d .repeat ≡ true → d .turn .len ≡ length (settings (self .state) .last)) →
-    session (after (record { state = self .state; line = line; turn = self .turn }) d) ≡ left d (settings (self .state)) line
-after-left self d line again =
-    by-test (d .repeat)
-    (λ e.
-    let all : take (d .turn .len) (self .state .«last_obd_command») ≡ settings (self .state) .last = rw (again e) (take-cut (self .state .«last_len») (self .state .«last_obd_command»)) in
-    rw e (λ i. record { state = settings (self .state); line = all i; phase = d .turn .phase }))
-    (λ e. rw e)
+  pub left-line : {t : Turn} → d .repeat ≡ false → next ≡ record { state = self .state; line = line; turn = t } → session turned ≡ left d (settings (self .state)) line
+  left-line e q = ap (λ (x : ServerSession). session (record { state = x .state; line = x .line; turn = d .turn })) q ∙ rw e
 
 -- a byte from the front of the buffer on, whose text fits
 pub does-lent : {d : Said Session Phase} {state : Settings} {line out o : List ℕ} {r : Did} (s : ServerSession) → length (d .text) ≤ length out → Does d state line out 0 r o → session s ≡ left r state line →

@@ -17,7 +17,6 @@ use Rattle.server_session.specs.declared.Turn.{Turn}
 use Rattle.server_session.specs.declared.Flags.{Flags}
 use Rattle.server_session.specs.declared.Did.{Did}
 use Rattle.server_session.specs.declared.Run.{Run}
-use Rattle.server_session.specs.declared.ServerSession.{ServerSession}
 use Rattle.server_session.specs.declared.Replied.{Replied}
 use Rattle.server_session.specs.Session.{Session, isReading}
 use Rattle.server_session.specs.Bytes.{byteAnswer, ServedBytes}
@@ -48,10 +47,6 @@ pub record Shows (state : Settings) (f : Flags) : Type 0 where
 -- the session that a byte leaves
 abbrev pub left : Did → Settings → List ℕ → Session
 left d state line = record { state = state; line = cond (d .repeat) (state .last) (take (d .turn .len) line); phase = d .turn .phase }
-
--- the code's session after that
-abbrev pub after : ServerSession → Did → ServerSession
-after self d = record { state = self .state; line = cond (d .repeat) (self .state .«last_obd_command») (self .line); turn = d .turn }
 
 -- A byte that writes from a position of the out buffer on does what is said. Where the last command is repeated it is the line, and no more bytes are looked at.
 pub record Does (d : Said Session Phase) (state : Settings) (line out : List ℕ) (at : ℕ) (r : Did) (out₁ : List ℕ) : Type 0 where

@@ -15,7 +15,7 @@ ghost use Rattle.wire.specs.Put.{Put};
 ghost use Rattle.client_state.specs.Settings.{Settings};
 ghost use Rattle.server_session.specs.Session.{Session, session, freshSession, isReading};
 ghost use Rattle.server_session.specs.Bytes.{canonical, byteNumber, commandPhase, emptyLine, lineEnd, byteSays, byteAnswer, byteServed, bytesSay, bytesServed, lentBytes};
-ghost use Rattle.server_session.specs.Steps.{Does, numbered, goesOn, isSpecial, Shows, shown, after, Serves, RunFits, RanTo, Joins};
+ghost use Rattle.server_session.specs.Steps.{Does, numbered, goesOn, isSpecial, Shows, shown, Serves, RunFits, RanTo, Joins};
 
 // Who speaks next.
 pub enum Phase {
@@ -328,14 +328,14 @@ fn read_run(
     join_run(line, len, input, i, out, at, echo, most)
 }
 
-// The last command has 128 bytes at most, whatever last_len says.
-fn read_flags(state: ClientState) -> Flags
-    ensures { λ r. ⌜ r ≡ record { echo = state .«echo_enabled»; linefeeds = state .«linefeeds_enabled»; last = min (state .«last_len») 128 } ⌝ }
+// The last command has 128 bytes at most, whatever size says.
+fn read_flags(echo: bool, linefeeds: bool, size: usize) -> Flags
+    ensures { λ r. ⌜ r ≡ record { echo = echo; linefeeds = linefeeds; last = min size 128 } ⌝ }
 {
     Flags {
-        echo: state.echo_enabled,
-        linefeeds: state.linefeeds_enabled,
-        last: wire::at_most(state.last_len, 128),
+        echo,
+        linefeeds,
+        last: wire::at_most(size, 128),
     }
 }
 
@@ -507,31 +507,28 @@ impl ServerSession {
         128
     }
 
-    // The session after bytes: the last command goes into its line where it is repeated.
-    fn after(mut self, did: Did) -> ServerSession
-        ensures { λ r. ⌜ r ≡ after self did ⌝ }
+    // One byte from the reader.
+    pub fn byte(mut self, b: u8, out: &mut [u8]) -> ByteStep
+        ensures { λ r. ⌜ byteServed r (now (out .exit)) ≡ lent (byteSays (length (now (out .entry))) (session self) b) (now (out .entry)) ⌝ }
     {
+        let turn = self.turn;
+        let flags = read_flags(
+            self.state.echo_enabled,
+            self.state.linefeeds_enabled,
+            self.state.last_len,
+        );
+        let did = take_byte(&mut self.line, turn, flags, b, out, 0);
         if did.repeat {
             let last = self.state.last_obd_command;
             self.line = last;
         }
         let turn = did.turn;
         self.turn = turn;
-        self
-    }
-
-    // One byte from the reader.
-    pub fn byte(mut self, b: u8, out: &mut [u8]) -> ByteStep
-        ensures { λ r. ⌜ byteServed r (now (out .exit)) ≡ lent (byteSays (length (now (out .entry))) (session self) b) (now (out .entry)) ⌝ }
-    {
-        let flags = read_flags(self.state);
-        let turn = self.turn;
-        let did = take_byte(&mut self.line, turn, flags, b, out, 0);
         let answer = did.answer;
         ByteStep {
             answer,
             written: did.at,
-            session: self.after(did),
+            session: self,
         }
     }
 
@@ -539,15 +536,25 @@ impl ServerSession {
     pub fn bytes(mut self, input: &[u8], out: &mut [u8]) -> BytesStep
         ensures { λ r. ⌜ bytesServed r (now (out .exit)) ≡ lentBytes (bytesSay (length (now (out .entry))) (session self) (now (input .entry))) (now (out .entry)) ⌝ }
     {
-        let flags = read_flags(self.state);
         let turn = self.turn;
+        let flags = read_flags(
+            self.state.echo_enabled,
+            self.state.linefeeds_enabled,
+            self.state.last_len,
+        );
         let did = take_bytes(&mut self.line, turn, flags, input, out);
+        if did.repeat {
+            let last = self.state.last_obd_command;
+            self.line = last;
+        }
+        let turn = did.turn;
+        self.turn = turn;
         let answer = did.answer;
         BytesStep {
             answer,
             taken: did.taken,
             written: did.at,
-            session: self.after(did),
+            session: self,
         }
     }
 }

@@ -1,22 +1,61 @@
 -- `driver_client::run` meets its contract. The invariant: the calls that are left, on the session as it is now, come to what the whole script comes to.
-use mathlib.Core.Path.{_≡_, refl, sym, _∙_}
-use Prim.Native.Nat.{_-_, _≤_}
+use mathlib.Core.List.{List}
+use mathlib.Core.Path.{_≡_, refl, sym, ap, _∙_}
+use Prim.Native.Nat.{ℕ, _+_, _-_, _≤_, _<_}
 use native.Mathlib.Omega.{arith}
-use lib.ListN.{length, drop, getD}
+use lib.ListN.{length, take, drop, getD}
 use borrow.Author.Needs.{needs}
-use Rattle.driver_log.proofs.ScriptLaws.{calls-turn, calls-end}
+use Rattle.wire.specs.Call.{lent}
+use Rattle.query.specs.Query.{countOf}
+use Rattle.client_session.specs.Session.{client}
+use Rattle.client_session.specs.Start.{queryPidSays}
 use Rattle.driver_log.specs.Script.{calls}
-use Rattle.driver_client.specs.Client.{clientCall, clientTurn}
+use Rattle.driver_client.specs.Client.{Stored, clientCall, clientAt, startNoted, pieceNoted, finishNoted}
+use Rattle.driver_log.proofs.LogLaws.{answered-is, counted-is}
+use Rattle.driver_log.proofs.ScriptLaws.{calls-turn, calls-end}
+use Rattle.driver_client.proofs.CallLaws.{with, client-rare}
 use Rattle.driver_client.proofs.run.Statement.{statement}
 use Rattle.driver_client.proofs.run.Tie as tie
 
 abbrev Inv-loop : tie.InvT-loop
-Inv-loop script store₀ out₀ log₀ turn₀ from₀ store out log turn from =
+Inv-loop script store₀ out₀ log₀ session₀ from₀ at₀ store out log session from at =
     (from ≤ length script) × (length store ≡ length store₀) × (length out ≡ length out₀) × (length log ≡ length log₀) ×
-    (calls clientCall (clientTurn turn store out log) (drop from script) ≡ calls clientCall (clientTurn turn₀ store₀ out₀ log₀) script)
+    (calls clientCall (clientAt (client session) at store out log) (drop from script) ≡ calls clientCall (clientAt (client session₀) 0 store₀ out₀ log₀) script)
 
 abbrev μ-loop : tie.MeasureT-loop
-μ-loop script store₀ out₀ log₀ turn₀ from₀ store out log turn from = length script - from
+μ-loop script store₀ out₀ log₀ session₀ from₀ at₀ store out log session from at = length script - from
+
+-- At a call: the turn so far, the call's argument, and what follows from what the call does.
+module _ (k : tie.After-shared-slice-known2 Inv-loop μ-loop) where
+  abbrev head : tie.At-loop Inv-loop μ-loop
+  head = k .before .before .before
+
+  abbrev given : List ℕ
+  given = head .before .before .before .before .before .args .script .now
+
+  abbrev from : ℕ
+  from = head .loop .from
+
+  abbrev size : ℕ
+  size = k .before .argument-size .result
+
+  abbrev here : Stored
+  here = clientAt (client (head .loop .session)) (head .loop .at) (head .loop .store) (head .loop .out) (head .loop .log)
+
+  abbrev argument : List ℕ
+  argument = take (from + 3 + size - (from + 3)) (drop (from + 3) given)
+
+  there : from + 3 + size ≤ length given
+  there = omega (arith, k .before .argument-size .ensures, k .before .before .loop-test .taken)
+
+  less : length given - (from + 3 + size) < length given - from
+  less = omega (arith, k .before .before .loop-test .taken)
+
+  turned : (kind : ℕ) (u : Stored) → getD given from 0 ≡ kind → u ≡ clientCall here kind argument →
+      calls clientCall u (drop (from + 3 + size) given) ≡
+      calls clientCall (clientAt (client (head .before .before .before .before .before .args .session)) 0 (head .before .before .before .before .before .args .store .now) (head .before .before .before .before .before .args .out .now) (head .before .before .before .before .before .args .log .now)) given
+  turned kind u e w =
+      calls-turn clientCall here u given from size kind (k .before .before .loop-test .taken) (k .before .argument-size .ensures) e w ∙ head .loop .inv .4
 
 loop-holds : tie.Need-loop-holds Inv-loop μ-loop
 loop-holds c = (omega arith, refl, refl, refl, refl)
@@ -33,26 +72,155 @@ argument-size-requires c κs = search needs
 add-end : tie.Need-add-end Inv-loop μ-loop
 add-end c = search needs
 
-shared-slice-read-call : tie.Need-shared-slice-read-call Inv-loop μ-loop
-shared-slice-read-call c = search needs
+shared-slice-read-kind : tie.Need-shared-slice-read-kind Inv-loop μ-loop
+shared-slice-read-kind c = search needs
 
-sub-call : tie.Need-sub-call Inv-loop μ-loop
-sub-call c = search needs
+sub-command : tie.Need-sub-command Inv-loop μ-loop
+sub-command c = search needs
 
-part-call-start : tie.Need-part-call-start Inv-loop μ-loop
-part-call-start c = search needs
+part-command-start : tie.Need-part-command-start Inv-loop μ-loop
+part-command-start c = search needs
 
-part-call-end : tie.Need-part-call-end Inv-loop μ-loop
-part-call-end c = search needs
+part-command-end : tie.Need-part-command-end Inv-loop μ-loop
+part-command-end c = search needs
 
-call-requires : tie.Need-call-requires Inv-loop μ-loop
-call-requires c κs = search needs
+command-requires : tie.Need-command-requires Inv-loop μ-loop
+command-requires c κs = search needs
+
+start-code-requires : tie.Need-start-code-requires Inv-loop μ-loop
+start-code-requires c κs = search needs
+
+put-call-requires : tie.Need-put-call-requires Inv-loop μ-loop
+put-call-requires c κs = search needs
 
 loop-less : tie.Need-loop-less Inv-loop μ-loop
-loop-less c = omega (arith, c .before .before .before .before .before .before .before .before .before .before .before .before .before .loop-test .taken)
+loop-less c = less (c .before .before .before .before .before .before .before .before .before .before .before .before .before)
 
 loop-again : tie.Need-loop-again Inv-loop μ-loop
-loop-again c = let k = c .before .before .before .before .before .before .before .before .before .before .before .before .before .before in let given = c .before .before .before .before .before .before .before .before .before .before .before .before .before .before .before .before .before .before .before .args .script .now in let size = c .before .before .before .before .before .before .before .before .before .before .before .before in let test = c .before .before .before .before .before .before .before .before .before .before .before .before .before .loop-test .taken in (omega (arith, size .argument-size .ensures, test), search needs, search needs, search needs, calls-turn clientCall (clientTurn (k .loop .turn) (k .loop .store) (k .loop .out) (k .loop .log)) _ given (k .loop .from) (size .argument-size .result) (getD given (k .loop .from) 0) test (size .argument-size .ensures) refl (c .before .before .before .before .before .before .call .ensures) ∙ k .loop .inv .4)
+loop-again c = let k = c .before .before .before .before .before .before .before .before .before .before .before .before .before in (there k, search needs, search needs, search needs, turned k 1 _ (c .before .before .before .before .before .before .before .before .before .before .before .before .match .keys1) (ap (with (here k .store)) (answered-is _ 0 (c .before .before .before .before .before .before .before .before .before .command .result .written) (c .before .before .before .before .start-code .ensures) (c .before .before .put-call .ensures)) ∙ ap (startNoted (here k)) (c .before .before .before .before .before .before .before .before .before .command .ensures)))
+
+sub-count-given : tie.Need-sub-count-given Inv-loop μ-loop
+sub-count-given c = search needs
+
+part-count-given-start : tie.Need-part-count-given-start Inv-loop μ-loop
+part-count-given-start c = search needs
+
+part-count-given-end : tie.Need-part-count-given-end Inv-loop μ-loop
+part-count-given-end c = search needs
+
+count-given-requires : tie.Need-count-given-requires Inv-loop μ-loop
+count-given-requires c κs = search needs
+
+sub-byte-of : tie.Need-sub-byte-of Inv-loop μ-loop
+sub-byte-of c = search needs
+
+part-byte-of-start : tie.Need-part-byte-of-start Inv-loop μ-loop
+part-byte-of-start c = search needs
+
+part-byte-of-end : tie.Need-part-byte-of-end Inv-loop μ-loop
+part-byte-of-end c = search needs
+
+byte-of-requires : tie.Need-byte-of-requires Inv-loop μ-loop
+byte-of-requires c κs = search needs
+
+query-pid-requires : tie.Need-query-pid-requires Inv-loop μ-loop
+query-pid-requires c κs = search needs
+
+start-code-requires-2 : tie.Need-start-code-requires-2 Inv-loop μ-loop
+start-code-requires-2 c κs = search needs
+
+put-call-requires-2 : tie.Need-put-call-requires-2 Inv-loop μ-loop
+put-call-requires-2 c κs = search needs
+
+loop-less-2 : tie.Need-loop-less-2 Inv-loop μ-loop
+loop-less-2 c = less (c .before .before .before .before .before .before .before .before .before .before .before .before .before .before .before .before)
+
+loop-again-2 : tie.Need-loop-again-2 Inv-loop μ-loop
+loop-again-2 c = let k = c .before .before .before .before .before .before .before .before .before .before .before .before .before .before .before .before in (there k, search needs, search needs, search needs, turned k 2 _ (c .before .before .before .before .before .before .before .before .before .before .before .before .before .before .before .match .keys2) (ap (with (here k .store)) (answered-is _ 0 (c .before .before .before .before .before .before .before .before .before .query-pid .result .written) (c .before .before .before .before .start-code2 .ensures) (c .before .before .put-call2 .ensures)) ∙ ap (startNoted (here k)) (c .before .before .before .before .before .before .before .before .before .query-pid .ensures) ∙ ap (λ b. startNoted (here k) (lent (queryPidSays (length (here k .turn .out)) (here k .turn .session) b (countOf (c .before .before .before .before .before .before .before .before .before .before .before .before .before .count-given .result))) (here k .turn .out))) (c .before .before .before .before .before .before .before .before .before .before .before .byte-of .ensures) ∙ ap (λ n. startNoted (here k) (lent (queryPidSays (length (here k .turn .out)) (here k .turn .session) (getD (argument k) 0 0) n) (here k .turn .out))) (c .before .before .before .before .before .before .before .before .before .before .before .before .before .count-given .ensures)))
+
+sub-query-pids : tie.Need-sub-query-pids Inv-loop μ-loop
+sub-query-pids c = search needs
+
+part-query-pids-start : tie.Need-part-query-pids-start Inv-loop μ-loop
+part-query-pids-start c = search needs
+
+part-query-pids-end : tie.Need-part-query-pids-end Inv-loop μ-loop
+part-query-pids-end c = search needs
+
+query-pids-requires : tie.Need-query-pids-requires Inv-loop μ-loop
+query-pids-requires c κs = search needs
+
+start-code-requires-3 : tie.Need-start-code-requires-3 Inv-loop μ-loop
+start-code-requires-3 c κs = search needs
+
+put-call-requires-3 : tie.Need-put-call-requires-3 Inv-loop μ-loop
+put-call-requires-3 c κs = search needs
+
+loop-less-3 : tie.Need-loop-less-3 Inv-loop μ-loop
+loop-less-3 c = less (c .before .before .before .before .before .before .before .before .before .before .before .before .before)
+
+loop-again-3 : tie.Need-loop-again-3 Inv-loop μ-loop
+loop-again-3 c = let k = c .before .before .before .before .before .before .before .before .before .before .before .before .before in (there k, search needs, search needs, search needs, turned k 3 _ (c .before .before .before .before .before .before .before .before .before .before .before .before .match .keys3) (ap (with (here k .store)) (answered-is _ 0 (c .before .before .before .before .before .before .before .before .before .query-pids .result .written) (c .before .before .before .before .start-code3 .ensures) (c .before .before .put-call3 .ensures)) ∙ ap (startNoted (here k)) (c .before .before .before .before .before .before .before .before .before .query-pids .ensures)))
+
+sub-piece : tie.Need-sub-piece Inv-loop μ-loop
+sub-piece c = search needs
+
+part-piece-start : tie.Need-part-piece-start Inv-loop μ-loop
+part-piece-start c = search needs
+
+part-piece-end : tie.Need-part-piece-end Inv-loop μ-loop
+part-piece-end c = search needs
+
+piece-requires : tie.Need-piece-requires Inv-loop μ-loop
+piece-requires c κs = search needs
+
+piece-code-requires : tie.Need-piece-code-requires Inv-loop μ-loop
+piece-code-requires c κs = search needs
+
+put-call-requires-4 : tie.Need-put-call-requires-4 Inv-loop μ-loop
+put-call-requires-4 c κs = search needs
+
+loop-less-4 : tie.Need-loop-less-4 Inv-loop μ-loop
+loop-less-4 c = less (c .before .before .before .before .before .before .before .before .before .before .before .before .before .before .before .before)
+
+loop-again-4 : tie.Need-loop-again-4 Inv-loop μ-loop
+loop-again-4 c = let k = c .before .before .before .before .before .before .before .before .before .before .before .before .before .before .before .before in (there k, search needs, search needs, search needs, turned k 4 _ (c .before .before .before .before .before .before .before .before .before .before .before .before .before .before .before .match .keys4) (ap (with _) (answered-is _ 0 (c .before .before .before .before .before .before .before .before .before .before .before .piece .result .written) (c .before .before .before .before .piece-code .ensures) (c .before .before .put-call4 .ensures)) ∙ ap (λ r. pieceNoted (here k) (r .served) (r .store)) (c .before .before .before .before .before .before .before .before .before .before .before .piece .ensures)))
+
+finish-requires : tie.Need-finish-requires Inv-loop μ-loop
+finish-requires c κs = search needs
+
+finish-code-requires : tie.Need-finish-code-requires Inv-loop μ-loop
+finish-code-requires c κs = search needs
+
+finish-count-requires : tie.Need-finish-count-requires Inv-loop μ-loop
+finish-count-requires c κs = search needs
+
+put-call-requires-5 : tie.Need-put-call-requires-5 Inv-loop μ-loop
+put-call-requires-5 c κs = search needs
+
+loop-less-5 : tie.Need-loop-less-5 Inv-loop μ-loop
+loop-less-5 c = less (c .before .before .before .before .before .before .before .before .before .before .before .before .before .before)
+
+loop-again-5 : tie.Need-loop-again-5 Inv-loop μ-loop
+loop-again-5 c = let k = c .before .before .before .before .before .before .before .before .before .before .before .before .before .before in (there k, search needs, search needs, search needs, turned k 5 _ (c .before .before .before .before .before .before .before .before .before .before .before .before .before .match .keys5) (ap (with (here k .store)) (counted-is _ (c .before .before .before .before .before .before .before .before .before .before .finish .result .written) (c .before .before .before .before .before .finish-code .ensures) (c .before .before .before .before .finish-count .ensures) (c .before .before .put-call5 .ensures)) ∙ ap (finishNoted (here k)) (c .before .before .before .before .before .before .before .before .before .before .finish .ensures)))
+
+sub-rare : tie.Need-sub-rare Inv-loop μ-loop
+sub-rare c = search needs
+
+part-rare-start : tie.Need-part-rare-start Inv-loop μ-loop
+part-rare-start c = search needs
+
+part-rare-end : tie.Need-part-rare-end Inv-loop μ-loop
+part-rare-end c = search needs
+
+rare-requires : tie.Need-rare-requires Inv-loop μ-loop
+rare-requires c κs = search needs
+
+loop-less-6 : tie.Need-loop-less-6 Inv-loop μ-loop
+loop-less-6 c = less (c .before .before .before .before .before .before .before .before .before .before .before)
+
+loop-again-6 : tie.Need-loop-again-6 Inv-loop μ-loop
+loop-again-6 c = let k = c .before .before .before .before .before .before .before .before .before .before .before in (there k, search needs, search needs, search needs, turned k (getD (given k) (from k) 0) _ refl (c .before .before .before .before .before .rare .ensures ∙ client-rare (here k) (getD (given k) (from k) 0) (argument k) (c .before .before .before .before .before .before .before .before .before .before .match .rest)))
 
 same-length : tie.Need-same-length Inv-loop μ-loop
 same-length c = search needs
@@ -64,7 +232,7 @@ same-length-3 : tie.Need-same-length-3 Inv-loop μ-loop
 same-length-3 c = search needs
 
 returns : tie.Need-returns Inv-loop μ-loop
-returns c = let k = c .before in sym (calls-end clientCall (clientTurn (k .loop .turn) (k .loop .store) (k .loop .out) (k .loop .log)) (c .before .before .before .before .before .before .args .script .now) (k .loop .from) (c .loop-test .left)) ∙ k .loop .inv .4
+returns c = sym (calls-end clientCall (clientAt (client (c .before .loop .session)) (c .before .loop .at) (c .before .loop .store) (c .before .loop .out) (c .before .loop .log)) (c .before .before .before .before .before .before .args .script .now) (c .before .loop .from) (c .loop-test .left)) ∙ c .before .loop .inv .4
 
 pub run-spec : {M : Type 1} → statement M
 run-spec =
@@ -77,13 +245,56 @@ run-spec =
     add-start
     argument-size-requires
     add-end
-    shared-slice-read-call
-    sub-call
-    part-call-start
-    part-call-end
-    call-requires
+    shared-slice-read-kind
+    sub-command
+    part-command-start
+    part-command-end
+    command-requires
+    start-code-requires
+    put-call-requires
     loop-less
     loop-again
+    sub-count-given
+    part-count-given-start
+    part-count-given-end
+    count-given-requires
+    sub-byte-of
+    part-byte-of-start
+    part-byte-of-end
+    byte-of-requires
+    query-pid-requires
+    start-code-requires-2
+    put-call-requires-2
+    loop-less-2
+    loop-again-2
+    sub-query-pids
+    part-query-pids-start
+    part-query-pids-end
+    query-pids-requires
+    start-code-requires-3
+    put-call-requires-3
+    loop-less-3
+    loop-again-3
+    sub-piece
+    part-piece-start
+    part-piece-end
+    piece-requires
+    piece-code-requires
+    put-call-requires-4
+    loop-less-4
+    loop-again-4
+    finish-requires
+    finish-code-requires
+    finish-count-requires
+    put-call-requires-5
+    loop-less-5
+    loop-again-5
+    sub-rare
+    part-rare-start
+    part-rare-end
+    rare-requires
+    loop-less-6
+    loop-again-6
     same-length
     same-length-2
     same-length-3

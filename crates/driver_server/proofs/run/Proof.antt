@@ -1,22 +1,61 @@
 -- `driver_server::run` meets its contract. The invariant: the calls that are left, on the session as it is now, come to what the whole script comes to.
-use mathlib.Core.Path.{_≡_, refl, sym, _∙_}
-use Prim.Native.Nat.{_-_, _≤_}
+use mathlib.Core.List.{List}
+use mathlib.Core.Path.{_≡_, refl, sym, ap, _∙_}
+use Prim.Native.Nat.{ℕ, _+_, _-_, _≤_, _<_}
 use native.Mathlib.Omega.{arith}
-use lib.ListN.{length, drop, getD}
+use lib.ListN.{length, take, drop, getD}
 use borrow.Author.Needs.{needs}
-use Rattle.driver_log.proofs.ScriptLaws.{calls-turn, calls-end}
+use Rattle.wire.specs.Call.{lent}
+use Rattle.server_session.specs.Session.{Session, session}
+use Rattle.server_session.specs.Bytes.{byteSays}
+use Rattle.driver_log.specs.Log.{Turn}
 use Rattle.driver_log.specs.Script.{calls}
-use Rattle.driver_server.specs.Server.{serverCall, serverTurn}
+use Rattle.driver_server.specs.Server.{serverCall, serverAt, byteNoted, bytesNoted, sentNoted}
+use Rattle.driver_log.proofs.LogLaws.{answered-is}
+use Rattle.driver_log.proofs.ScriptLaws.{calls-turn, calls-end}
+use Rattle.driver_server.proofs.CallLaws.{server-rare}
 use Rattle.driver_server.proofs.run.Statement.{statement}
 use Rattle.driver_server.proofs.run.Tie as tie
 
 abbrev Inv-loop : tie.InvT-loop
-Inv-loop script out₀ log₀ turn₀ from₀ out log turn from =
+Inv-loop script out₀ log₀ server₀ from₀ at₀ t20 out log server from at =
     (from ≤ length script) × (length out ≡ length out₀) × (length log ≡ length log₀) ×
-    (calls serverCall (serverTurn turn out log) (drop from script) ≡ calls serverCall (serverTurn turn₀ out₀ log₀) script)
+    (calls serverCall (serverAt (session server) at out log) (drop from script) ≡ calls serverCall (serverAt (session server₀) 0 out₀ log₀) script)
 
 abbrev μ-loop : tie.MeasureT-loop
-μ-loop script out₀ log₀ turn₀ from₀ out log turn from = length script - from
+μ-loop script out₀ log₀ server₀ from₀ at₀ t20 out log server from at = length script - from
+
+-- At a call: the turn so far, the call's argument, and what follows from what the call does.
+module _ (k : tie.After-shared-slice-known2 Inv-loop μ-loop) where
+  abbrev head : tie.At-loop Inv-loop μ-loop
+  head = k .before .before .before
+
+  abbrev given : List ℕ
+  given = head .before .before .before .before .args .script .now
+
+  abbrev from : ℕ
+  from = head .loop .from
+
+  abbrev size : ℕ
+  size = k .before .argument-size .result
+
+  abbrev here : Turn Session
+  here = serverAt (session (head .loop .server)) (head .loop .at) (head .loop .out) (head .loop .log)
+
+  abbrev argument : List ℕ
+  argument = take (from + 3 + size - (from + 3)) (drop (from + 3) given)
+
+  there : from + 3 + size ≤ length given
+  there = omega (arith, k .before .argument-size .ensures, k .before .before .loop-test .taken)
+
+  less : length given - (from + 3 + size) < length given - from
+  less = omega (arith, k .before .before .loop-test .taken)
+
+  turned : (kind : ℕ) (u : Turn Session) → getD given from 0 ≡ kind → u ≡ serverCall here kind argument →
+      calls serverCall u (drop (from + 3 + size) given) ≡
+      calls serverCall (serverAt (session (head .before .before .before .before .args .server)) 0 (head .before .before .before .before .args .out .now) (head .before .before .before .before .args .log .now)) given
+  turned kind u e w =
+      calls-turn serverCall here u given from size kind (k .before .before .loop-test .taken) (k .before .argument-size .ensures) e w ∙ head .loop .inv .3
 
 loop-holds : tie.Need-loop-holds Inv-loop μ-loop
 loop-holds c = (omega arith, refl, refl, refl)
@@ -33,26 +72,128 @@ argument-size-requires c κs = search needs
 add-end : tie.Need-add-end Inv-loop μ-loop
 add-end c = search needs
 
-shared-slice-read-call : tie.Need-shared-slice-read-call Inv-loop μ-loop
-shared-slice-read-call c = search needs
+shared-slice-read-kind : tie.Need-shared-slice-read-kind Inv-loop μ-loop
+shared-slice-read-kind c = search needs
 
-sub-call : tie.Need-sub-call Inv-loop μ-loop
-sub-call c = search needs
+sub-byte-of : tie.Need-sub-byte-of Inv-loop μ-loop
+sub-byte-of c = search needs
 
-part-call-start : tie.Need-part-call-start Inv-loop μ-loop
-part-call-start c = search needs
+part-byte-of-start : tie.Need-part-byte-of-start Inv-loop μ-loop
+part-byte-of-start c = search needs
 
-part-call-end : tie.Need-part-call-end Inv-loop μ-loop
-part-call-end c = search needs
+part-byte-of-end : tie.Need-part-byte-of-end Inv-loop μ-loop
+part-byte-of-end c = search needs
 
-call-requires : tie.Need-call-requires Inv-loop μ-loop
-call-requires c κs = search needs
+byte-of-requires : tie.Need-byte-of-requires Inv-loop μ-loop
+byte-of-requires c κs = search needs
+
+byte-requires : tie.Need-byte-requires Inv-loop μ-loop
+byte-requires c κs = search needs
+
+byte-code-requires : tie.Need-byte-code-requires Inv-loop μ-loop
+byte-code-requires c κs = search needs
+
+put-call-requires : tie.Need-put-call-requires Inv-loop μ-loop
+put-call-requires c κs = search needs
 
 loop-less : tie.Need-loop-less Inv-loop μ-loop
-loop-less c = omega (arith, c .before .before .before .before .before .before .before .before .before .before .loop-test .taken)
+loop-less c = less (c .before .before .before .before .before .before .before .before .before .before .before .before .before .before)
 
 loop-again : tie.Need-loop-again Inv-loop μ-loop
-loop-again c = let k = c .before .before .before .before .before .before .before .before .before .before .before in let given = c .before .before .before .before .before .before .before .before .before .before .before .before .before .before .before .args .script .now in let size = c .before .before .before .before .before .before .before .before .before in let test = c .before .before .before .before .before .before .before .before .before .before .loop-test .taken in (omega (arith, size .argument-size .ensures, test), search needs, search needs, calls-turn serverCall (serverTurn (k .loop .turn) (k .loop .out) (k .loop .log)) _ given (k .loop .from) (size .argument-size .result) (getD given (k .loop .from) 0) test (size .argument-size .ensures) refl (c .before .before .before .before .call .ensures) ∙ k .loop .inv .3)
+loop-again c = let k = c .before .before .before .before .before .before .before .before .before .before .before .before .before .before in (there k, search needs, search needs, turned k 1 _ (c .before .before .before .before .before .before .before .before .before .before .before .before .before .match .keys1) (answered-is _ 0 (c .before .before .before .before .before .before .before .before .before .byte .result .written) (c .before .before .before .before .byte-code .ensures) (c .before .before .put-call .ensures) ∙ ap (byteNoted (here k)) (c .before .before .before .before .before .before .before .before .before .byte .ensures) ∙ ap (λ b. byteNoted (here k) (lent (byteSays (length (here k .out)) (here k .session) b) (here k .out))) (c .before .before .before .before .before .before .before .before .before .before .before .byte-of .ensures)))
+
+sub-bytes : tie.Need-sub-bytes Inv-loop μ-loop
+sub-bytes c = search needs
+
+part-bytes-start : tie.Need-part-bytes-start Inv-loop μ-loop
+part-bytes-start c = search needs
+
+part-bytes-end : tie.Need-part-bytes-end Inv-loop μ-loop
+part-bytes-end c = search needs
+
+bytes-requires : tie.Need-bytes-requires Inv-loop μ-loop
+bytes-requires c κs = search needs
+
+byte-code-requires-2 : tie.Need-byte-code-requires-2 Inv-loop μ-loop
+byte-code-requires-2 c κs = search needs
+
+put-call-requires-2 : tie.Need-put-call-requires-2 Inv-loop μ-loop
+put-call-requires-2 c κs = search needs
+
+loop-less-2 : tie.Need-loop-less-2 Inv-loop μ-loop
+loop-less-2 c = less (c .before .before .before .before .before .before .before .before .before .before .before .before .before)
+
+loop-again-2 : tie.Need-loop-again-2 Inv-loop μ-loop
+loop-again-2 c = let k = c .before .before .before .before .before .before .before .before .before .before .before .before .before in (there k, search needs, search needs, turned k 2 _ (c .before .before .before .before .before .before .before .before .before .before .before .before .match .keys2) (answered-is _ (c .before .before .before .before .before .before .before .before .before .bytes .result .taken) (c .before .before .before .before .before .before .before .before .before .bytes .result .written) (c .before .before .before .before .byte-code2 .ensures) (c .before .before .put-call2 .ensures) ∙ ap (bytesNoted (here k)) (c .before .before .before .before .before .before .before .before .before .bytes .ensures)))
+
+sub-reply : tie.Need-sub-reply Inv-loop μ-loop
+sub-reply c = search needs
+
+part-reply-start : tie.Need-part-reply-start Inv-loop μ-loop
+part-reply-start c = search needs
+
+part-reply-end : tie.Need-part-reply-end Inv-loop μ-loop
+part-reply-end c = search needs
+
+reply-requires : tie.Need-reply-requires Inv-loop μ-loop
+reply-requires c κs = search needs
+
+sent-code-requires : tie.Need-sent-code-requires Inv-loop μ-loop
+sent-code-requires c κs = search needs
+
+put-call-requires-3 : tie.Need-put-call-requires-3 Inv-loop μ-loop
+put-call-requires-3 c κs = search needs
+
+loop-less-3 : tie.Need-loop-less-3 Inv-loop μ-loop
+loop-less-3 c = less (c .before .before .before .before .before .before .before .before .before .before .before .before .before)
+
+loop-again-3 : tie.Need-loop-again-3 Inv-loop μ-loop
+loop-again-3 c = let k = c .before .before .before .before .before .before .before .before .before .before .before .before .before in (there k, search needs, search needs, turned k 3 _ (c .before .before .before .before .before .before .before .before .before .before .before .before .match .keys3) (answered-is _ 0 (c .before .before .before .before .before .before .before .before .before .reply .result .written) (c .before .before .before .before .sent-code .ensures) (c .before .before .put-call3 .ensures) ∙ ap (sentNoted (here k)) (c .before .before .before .before .before .before .before .before .before .reply .ensures)))
+
+slice-aggregate-answer : tie.Need-slice-aggregate-answer Inv-loop μ-loop
+slice-aggregate-answer c = search needs
+
+sub-answer : tie.Need-sub-answer Inv-loop μ-loop
+sub-answer c = search needs
+
+part-answer-start : tie.Need-part-answer-start Inv-loop μ-loop
+part-answer-start c = search needs
+
+part-answer-end : tie.Need-part-answer-end Inv-loop μ-loop
+part-answer-end c = search needs
+
+answer-requires : tie.Need-answer-requires Inv-loop μ-loop
+answer-requires c κs = search needs
+
+sent-code-requires-2 : tie.Need-sent-code-requires-2 Inv-loop μ-loop
+sent-code-requires-2 c κs = search needs
+
+put-call-requires-4 : tie.Need-put-call-requires-4 Inv-loop μ-loop
+put-call-requires-4 c κs = search needs
+
+loop-less-4 : tie.Need-loop-less-4 Inv-loop μ-loop
+loop-less-4 c = less (c .before .before .before .before .before .before .before .before .before .before .before .before .before .before)
+
+loop-again-4 : tie.Need-loop-again-4 Inv-loop μ-loop
+loop-again-4 c = let k = c .before .before .before .before .before .before .before .before .before .before .before .before .before .before in (there k, search needs, search needs, turned k 4 _ (c .before .before .before .before .before .before .before .before .before .before .before .before .before .match .keys4) (answered-is _ 0 (c .before .before .before .before .before .before .before .before .before .answer .result .written) (c .before .before .before .before .sent-code2 .ensures) (c .before .before .put-call4 .ensures) ∙ ap (sentNoted (here k)) (c .before .before .before .before .before .before .before .before .before .answer .ensures)))
+
+sub-rare : tie.Need-sub-rare Inv-loop μ-loop
+sub-rare c = search needs
+
+part-rare-start : tie.Need-part-rare-start Inv-loop μ-loop
+part-rare-start c = search needs
+
+part-rare-end : tie.Need-part-rare-end Inv-loop μ-loop
+part-rare-end c = search needs
+
+rare-requires : tie.Need-rare-requires Inv-loop μ-loop
+rare-requires c κs = search needs
+
+loop-less-5 : tie.Need-loop-less-5 Inv-loop μ-loop
+loop-less-5 c = less (c .before .before .before .before .before .before .before .before .before .before)
+
+loop-again-5 : tie.Need-loop-again-5 Inv-loop μ-loop
+loop-again-5 c = let k = c .before .before .before .before .before .before .before .before .before .before in (there k, search needs, search needs, turned k (getD (given k) (from k) 0) _ refl (c .before .before .before .before .before .rare .ensures ∙ server-rare (here k) (getD (given k) (from k) 0) (argument k) (c .before .before .before .before .before .before .before .before .before .match .rest)))
 
 same-length : tie.Need-same-length Inv-loop μ-loop
 same-length c = search needs
@@ -61,7 +202,7 @@ same-length-2 : tie.Need-same-length-2 Inv-loop μ-loop
 same-length-2 c = search needs
 
 returns : tie.Need-returns Inv-loop μ-loop
-returns c = let k = c .before in sym (calls-end serverCall (serverTurn (k .loop .turn) (k .loop .out) (k .loop .log)) (c .before .before .before .before .before .args .script .now) (k .loop .from) (c .loop-test .left)) ∙ k .loop .inv .3
+returns c = sym (calls-end serverCall (serverAt (session (c .before .loop .server)) (c .before .loop .at) (c .before .loop .out) (c .before .loop .log)) (c .before .before .before .before .before .args .script .now) (c .before .loop .from) (c .loop-test .left)) ∙ c .before .loop .inv .3
 
 pub run-spec : {M : Type 1} → statement M
 run-spec =
@@ -74,13 +215,47 @@ run-spec =
     add-start
     argument-size-requires
     add-end
-    shared-slice-read-call
-    sub-call
-    part-call-start
-    part-call-end
-    call-requires
+    shared-slice-read-kind
+    sub-byte-of
+    part-byte-of-start
+    part-byte-of-end
+    byte-of-requires
+    byte-requires
+    byte-code-requires
+    put-call-requires
     loop-less
     loop-again
+    sub-bytes
+    part-bytes-start
+    part-bytes-end
+    bytes-requires
+    byte-code-requires-2
+    put-call-requires-2
+    loop-less-2
+    loop-again-2
+    sub-reply
+    part-reply-start
+    part-reply-end
+    reply-requires
+    sent-code-requires
+    put-call-requires-3
+    loop-less-3
+    loop-again-3
+    slice-aggregate-answer
+    sub-answer
+    part-answer-start
+    part-answer-end
+    answer-requires
+    sent-code-requires-2
+    put-call-requires-4
+    loop-less-4
+    loop-again-4
+    sub-rare
+    part-rare-start
+    part-rare-end
+    rare-requires
+    loop-less-5
+    loop-again-5
     same-length
     same-length-2
     returns)
