@@ -1,10 +1,62 @@
 // Bytes written into lent buffers, and texts looked at. Every writer of this library stores as far as the buffer reaches
 // and returns the position after what it stored, so writers follow one another with nothing asked in between.
+ghost use Rattle.wire.specs.Answer.{number};
 ghost use Rattle.wire.specs.Put.{Put};
 ghost use Rattle.wire.specs.Text.{same, begins, has, high, isSpace, raised};
 ghost use mathlib.Core.List.{[], _∷_};
 ghost use Prim.Native.Nat.{min};
 ghost use mathlib.Core.Path.{_≡_};
+
+// Why a call gives no result: a case for each number of document 01, in their order.
+pub enum Refusal {
+    // 1: it is not this call's turn.
+    OutOfTurn,
+    // 2: a query of no PID or more than six.
+    PidCount,
+    // 3: a text, piece or script is too long.
+    TooLong,
+    // 4: a text holds a byte of 80 hex or more.
+    NotAscii,
+    // 5: bytes that are no line, line list or script.
+    Malformed,
+    // 6: a lent buffer is too small.
+    SmallBuffer,
+    // 7: a read or write failed, or the connection is closed.
+    Disconnected,
+    // 8: the reply has over 4,096 bytes.
+    ReplyTooLong,
+    // 9: the reply holds a byte of 80 hex or more.
+    ReplyNotAscii,
+    // 10: the line holds 128 bytes.
+    LineFull,
+    // 11: the reader's byte is 80 hex or more.
+    ByteNotAscii,
+}
+
+// Whether a call is refused, found out before it does anything.
+pub enum Verdict {
+    Accepted,
+    Refused(Refusal),
+}
+
+// Document 01's number of a refusal.
+pub fn number(refusal: Refusal) -> u8
+    ensures { λ r. ⌜ r ≡ number refusal ⌝ }
+{
+    match refusal {
+        Refusal::OutOfTurn => 1,
+        Refusal::PidCount => 2,
+        Refusal::TooLong => 3,
+        Refusal::NotAscii => 4,
+        Refusal::Malformed => 5,
+        Refusal::SmallBuffer => 6,
+        Refusal::Disconnected => 7,
+        Refusal::ReplyTooLong => 8,
+        Refusal::ReplyNotAscii => 9,
+        Refusal::LineFull => 10,
+        Refusal::ByteNotAscii => 11,
+    }
+}
 
 // One byte at position at.
 pub fn put_byte(out: &mut [u8], at: usize, byte: u8) -> usize
