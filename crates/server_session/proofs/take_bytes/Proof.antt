@@ -10,8 +10,9 @@ use borrow.Author.Needs.{needs}
 use borrow.Author.Tests.{not-true, not-false}
 use Rattle.wire.proofs.PutLaws.{put-length}
 use Rattle.client_state.specs.Settings.{Settings}
-use Rattle.server_session.specs.Bytes.{bytesSay, lentBytes, byteAnswer}
-use Rattle.server_session.specs.Steps.{Shows, shown, goesOn}
+use Rattle.server_session.specs.Bytes.{bytesSay, goesOn}
+use Rattle.server_session.specs.Call.{serverAnswer, serverLent}
+use Rattle.server_session.specs.Steps.{Shows, shown}
 use Rattle.server_session.specs.declared.Flags.{Flags}
 use Rattle.server_session.specs.declared.Turn.{Turn}
 use Rattle.server_session.proofs.RunLaws.{servedFrom, from-start, Leads, someSettings, some-shows, run-turn, byte-turn, byte-stop, bytes-end, serves-same, one-most}
@@ -22,7 +23,7 @@ abbrev Inv-loop : tie.InvT-loop
 Inv-loop line₀ flags input out₀ turn₀ i₀ at₀ line out turn i at =
     (i ≤ length input) × (at ≤ length out) × (length out ≡ length out₀) × (length line ≡ 128) ×
     ((state : Settings) → Shows state flags →
-    servedFrom i at (bytesSay (length out - at) (shown turn state line) (drop i input)) out ≡ lentBytes (bytesSay (length out₀) (shown turn₀ state line₀) input) out₀)
+    servedFrom i at (bytesSay (length out - at) (shown turn state line) (drop i input)) out ≡ serverLent (bytesSay (length out₀) (shown turn₀ state line₀) input) out₀)
 
 abbrev μ-loop : tie.MeasureT-loop
 μ-loop line₀ flags input out₀ turn₀ i₀ at₀ line out turn i at = length input - i
@@ -68,7 +69,7 @@ module _ (c : tie.After-goes-on Inv-loop μ-loop) where
   here : ran .read-run .result .next < length (given ran)
   here = called .before .before .before .before .if1 .left
 
-  byte-turned : goesOn (byteAnswer (called .take-byte .result .answer)) ≡ true → (state : Settings) → Shows state (told ran) →
+  byte-turned : goesOn (serverAnswer (called .take-byte .result .answer)) ≡ true → (state : Settings) → Shows state (told ran) →
       Leads state (given ran) (joined ran) (held ran) (ran .read-run .result .next) (ran .read-run .result .at) (sent ran)
       (called .take-byte .result .turn) (called .take-byte .last .0) (ran .read-run .result .next + 1) (called .take-byte .result .at) (called .take-byte .last .1 .1 .1 .1 .0)
   byte-turned e state h =
@@ -100,13 +101,13 @@ goes-on-requires : tie.Need-goes-on-requires Inv-loop μ-loop
 goes-on-requires c κs = search needs
 
 add-did : tie.Need-add-did Inv-loop μ-loop
-add-did c = omega (arith, c .before .before .before .before .before .before .before .before .before .if1 .left, c .before .before .before .before .before .before .before .before .before .before .before .before .before .before .before .before .before .before .before .good .1 .1 .1 .0 .0, one-most (called (c .before .before) .take-byte .ensures .0 _ (some-shows (told (ran (c .before .before))))))
+add-did c = omega (arith, c .before .before .before .before .before .before .before .before .before .if1 .left, c .before .before .before .before .before .before .before .before .before .before .before .before .before .before .before .before .before .before .before .good .1 .1 .1 .0 .0, one-most _ _ _ (called (c .before .before) .take-byte .ensures .0 _ (some-shows (told (ran (c .before .before))))))
 
 same-length-2 : tie.Need-same-length-2 Inv-loop μ-loop
 same-length-2 c = let k = c .before .before in put-length (called k .take-byte .ensures .0 _ (some-shows (told (ran k))) .text) ∙ ran-on (ran k) .same ∙ head (ran k) .loop .inv .2
 
 returns-2 : tie.Need-returns-2 Inv-loop μ-loop
-returns-2 c = let k = c .before .before in (λ state h. serves-same (run-turned (ran k) state h .says ∙ head (ran k) .loop .inv .4 state h) (byte-stop (joined (ran k)) state (held (ran k)) (given (ran k)) (sent (ran k)) _ _ (called k .take-byte .result) (called k .take-byte .last .0) (called k .take-byte .last .1 .1 .1 .1 .0) (ran-on (ran k) .inside) (here k) (called k .take-byte .ensures .0 state h) (sym (c .before .before .goes-on .ensures) ∙ not-true _ (c .before .if2 .taken))), called k .take-byte .ensures .1)
+returns-2 c = let k = c .before .before in (λ state h. serves-same (run-turned (ran k) state h .says ∙ head (ran k) .loop .inv .4 state h) (byte-stop (joined (ran k)) state (held (ran k)) (given (ran k)) (sent (ran k)) _ _ (called k .take-byte .result) (called k .take-byte .last .0) (called k .take-byte .last .1 .1 .1 .1 .0) (ran-on (ran k) .inside) (here k) (called k .take-byte .ensures .0 state h) (sym (c .before .before .goes-on .ensures) ∙ not-true _ (c .before .if2 .taken))), called k .take-byte .ensures .1 .0)
 
 add-i : tie.Need-add-i Inv-loop μ-loop
 add-i c = omega (arith, c .before .before .before .before .before .before .before .before .before .if1 .left, c .before .before .before .before .before .before .before .before .before .before .before .before .before .before .before .before .before .before .before .good .1 .1 .1 .0 .0)
@@ -115,7 +116,7 @@ loop-less : tie.Need-loop-less Inv-loop μ-loop
 loop-less c = omega (arith, c .before .before .before .before .before .before .before .before .before .if1 .left, c .before .before .before .before .before .before .before .before .before .before .before .before .before .read-run .ensures .to .next)
 
 loop-again : tie.Need-loop-again Inv-loop μ-loop
-loop-again c = let k = c .before .before in let t = ran-on (ran k) in let on = sym (c .before .before .goes-on .ensures) ∙ not-false _ (c .before .if2 .left) in let u = byte-turned k on (someSettings (told (ran k))) (some-shows (told (ran k))) in (u .there, u .inside, u .same ∙ t .same ∙ head (ran k) .loop .inv .2, called k .take-byte .ensures .1, λ state h. byte-turned k on state h .says ∙ run-turned (ran k) state h .says ∙ head (ran k) .loop .inv .4 state h)
+loop-again c = let k = c .before .before in let t = ran-on (ran k) in let on = sym (c .before .before .goes-on .ensures) ∙ not-false _ (c .before .if2 .left) in let u = byte-turned k on (someSettings (told (ran k))) (some-shows (told (ran k))) in (u .there, u .inside, u .same ∙ t .same ∙ head (ran k) .loop .inv .2, called k .take-byte .ensures .1 .0, λ state h. byte-turned k on state h .says ∙ run-turned (ran k) state h .says ∙ head (ran k) .loop .inv .4 state h)
 
 pub take-bytes-spec : {M : Type 1} → statement M
 take-bytes-spec =
