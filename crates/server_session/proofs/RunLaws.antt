@@ -25,9 +25,9 @@ use Rattle.server_session.specs.declared.Run.{Run}
 use Rattle.server_session.specs.Session.{Session, isReading}
 use Rattle.server_session.specs.Call.{ServerSaid, serverAnswer, ServerServed, serverLent}
 use Rattle.server_session.specs.Bytes.{withLine, echoes, byteSays, goesOn, bytesSay}
-use Rattle.server_session.specs.Steps.{Does, Serves, Shows, shown, isSpecial, RunFits, Ran, Joins}
+use Rattle.server_session.specs.Steps.{Does, Leaves, Serves, Shows, shown, isSpecial, RunFits, Ran, Joins}
 use Rattle.server_session.proofs.ByteLaws.{reading, text-short, taken-most}
-use Rattle.server_session.proofs.StepLaws.{line-size, line-cut}
+use Rattle.server_session.proofs.StepLaws.{line-size}
 use Rattle.server_session.proofs.BytesLaws.{after, bytes-on, bytes-stop, echo-append, echo-less, bytes-some}
 
 -- How many bytes a run may have
@@ -59,11 +59,11 @@ put-nothing false out at = put-none out at
 
 pub ran-none : (line : List ℕ) (len : ℕ) (input : List ℕ) (i : ℕ) (out : List ℕ) (at : ℕ) (echo : Bool) (most : ℕ) →
     Ran line len input i out at echo most 0 at line out
-ran-none line len input i out at echo most = record { within = omega arith; plain = refl; joined = rw (add-zero, append-nil (take len line)); sent = put-nothing echo out at }
+ran-none line len input i out at echo most = record { within = omega arith; plain = refl; joined = rw (add-zero, append-nil (take len line)); sent = put-nothing echo out at; still = λ z. refl }
 
 module _ (line : List ℕ) (len : ℕ) (input : List ℕ) (i : ℕ) (out : List ℕ) (at : ℕ) (echo : Bool) (most n end : ℕ) (l o : List ℕ)
     (ran : Ran line len input i out at echo most n end l o)
-    (more : n < most) (fits : len + most ≤ length l) (there : i + most ≤ length input) (plain : isSpecial (getD input (i + n) 0) ≡ false) where
+    (more : n < most) (fits : min len 128 + most ≤ 128) (size : length l ≡ 128) (there : i + most ≤ length input) (plain : isSpecial (getD input (i + n) 0) ≡ false) where
   one-more : take (n + 1) (drop i input) ≡ take n (drop i input) ++ (getD input (i + n) 0 ∷ [])
   one-more = rw add-one (take-suc (drop i input) n 0 (omega (arith, length-drop i input)) ∙ rw (getD-drop i input n 0))
 
@@ -76,6 +76,7 @@ module _ (line : List ℕ) (len : ℕ) (input : List ℕ) (i : ℕ) (out : List 
         plain = rw one-more (any-snoc isSpecial (take n (drop i input)) _ (ran .plain) plain);
         joined = rw (place, one-more, take-suc-set l (len + n) (getD input (i + n) 0) (omega arith), ran .joined, append-assoc);
         sent = rw (one-more, echo-append echo) (put-then (ran .sent) p);
+        still = λ z. absurd (omega arith);
       }
 
 -- What is served
@@ -118,7 +119,7 @@ module _ (t : Turn) (state : Settings) (line input out : List ℕ) (i at : ℕ) 
   abbrev count : ℕ
   count = run .to .count
 
-  abbrev ran : Ran line (min (t .len) 128) input i out at (f .echo) (run .most) count (r .at) l o
+  abbrev ran : Ran line (t .len) input i out at (f .echo) (run .most) count (r .at) l o
   ran = run .to .ran
 
   abbrev fits : RunFits t (f .echo) (length input - i) (length out - at) (run .most)
@@ -136,7 +137,7 @@ module _ (t : Turn) (state : Settings) (line input out : List ℕ) (i at : ℕ) 
   joins : shown then state l ≡ withLine s (s .line ++ text) (t .phase)
   joins =
       let joined : take (r .len) l ≡ take (t .len) line ++ text =
-      ap (λ n. take n l) (run .to .ends) ∙ ran .joined ∙ ap (λ (x : List ℕ). x ++ text) (line-cut (t .len) line k) in
+      ap (λ n. take n l) (run .to .ends) ∙ ran .joined in
       ap (λ (x : List ℕ). withLine s x (t .phase)) joined
 
   splits : drop i input ≡ text ++ drop (i + count) input
@@ -176,6 +177,17 @@ module _ (t : Turn) (state : Settings) (line input out : List ℕ) (i at : ℕ) 
             sym (served-after i count h sent w) ∙
             ap (λ (x : ServerSaid). servedFrom i at x out) (sym says);
       }
+
+  -- where nothing is taken the turn and the line stay themselves
+  pub run-still : r .next ≡ 0 → (then ≡ t) × (l ≡ line)
+  run-still z =
+      let none : count ≡ 0 = omega (arith, run .to .next) in
+      let end : r .len ≡ t .len = omega (arith, run .to .ends) in
+      ((λ j. record { phase = t .phase; len = end j }), ran .still none)
+
+pub leaves-from : {t t₀ : Turn} {line line₀ line₁ : List ℕ} {r : Did} (n : ℕ) → t ≡ t₀ → line ≡ line₀ → Leaves t line r line₁ →
+    Leaves t₀ line₀ (record { answer = r .answer; turn = r .turn; taken = n; at = r .at; repeat = r .repeat }) line₁
+leaves-from n p q v = record { same = v .same ∙ p; kept = v .kept ∙ q; plain = v .plain }
 
 -- A turn of the loop: the byte after it
 

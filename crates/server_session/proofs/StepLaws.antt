@@ -74,6 +74,9 @@ module _ (s : Session) (line₀ : List ℕ) (len : ℕ) (q : s .line ≡ take le
 pub done-goes : {P : Type 0} {q : Refusal} → answer.Reading ≡ answer.Refused q → P
 done-goes e = from-no cc
 
+pub result-goes : {P : Type 0} {a : ServerAnswer} {p : Phase} {q : Refusal} → serverAnswer a ≡ result p → a ≡ answer.Refused q → P
+result-goes {p = p} {q = q} e d = from-no (cc (ap serverAnswer d))
+
 -- the end of a line is never refused
 pub end-accepted : (s : Session) {state : Settings} {line out out₁ : List ℕ} {at : ℕ} {r : Did} {q : Refusal} → Does (lineEnd s [] (canonical (s .line))) state line out at r out₁ → r .answer ≡ answer.Refused q → ⊥
 end-accepted s {q = q} d e =

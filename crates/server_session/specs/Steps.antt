@@ -46,7 +46,7 @@ pub record Serves (x : ServerServed) (state : Settings) (line : List ℕ) (r : D
   pub served : record { answer = serverAnswer (r .answer); taken = r .taken; written = r .at; next = left r state line; out = out } ≡ x
   pub again : r .repeat ≡ true → r .turn .len ≡ length (state .last)
 
--- A byte that is refused leaves the turn and the line themselves.
+-- A byte that is refused, with none taken before it, leaves the turn and the line themselves.
 pub record Leaves (turn : Turn) (line : List ℕ) (r : Did) (line₁ : List ℕ) : Type 0 where
   pub same : r .turn ≡ turn
   pub kept : line₁ ≡ line
@@ -69,6 +69,7 @@ pub record Ran (line : List ℕ) (len : ℕ) (input : List ℕ) (i : ℕ) (out :
   pub plain : any isSpecial (take count (drop i input)) ≡ false
   pub joined : take (len + count) line₁ ≡ take len line ++ take count (drop i input)
   pub sent : Put out at (cond echo (take count (drop i input)) []) end out₁
+  pub still : count ≡ 0 → line₁ ≡ line
 
 -- The same by where it ends.
 pub record RanTo (line : List ℕ) (len : ℕ) (input : List ℕ) (i : ℕ) (out : List ℕ) (at : ℕ) (echo : Bool) (most : ℕ) (r : Run) (line₁ out₁ : List ℕ) : Type 0 where
@@ -82,4 +83,4 @@ pub record RanTo (line : List ℕ) (len : ℕ) (input : List ℕ) (i : ℕ) (out
 pub record Joins (t : Turn) (echo : Bool) (line input : List ℕ) (i : ℕ) (out : List ℕ) (at : ℕ) (r : Run) (line₁ out₁ : List ℕ) : Type 0 where
   pub most : ℕ
   pub fits : RunFits t echo (length input - i) (length out - at) most
-  pub to : RanTo line (min (t .len) 128) input i out at echo most r line₁ out₁
+  pub to : RanTo line (t .len) input i out at echo most r line₁ out₁

@@ -253,7 +253,7 @@ fn join_run(
     echo: bool,
     most: usize,
 ) -> Run
-    requires { ⌜ (len + most ≤ 128) × (length (now line) ≡ 128) × (i + most ≤ length (now input)) ⌝ }
+    requires { ⌜ (min len 128 + most ≤ 128) × (length (now line) ≡ 128) × (i + most ≤ length (now input)) ⌝ }
     ensures { λ r. ⌜ RanTo (now (line .entry)) len (now (input .entry)) i (now (out .entry)) at echo most r (now (line .exit)) (now (out .exit)) ⌝ }
 {
     let mut n: usize = 0;
@@ -287,9 +287,8 @@ fn read_run(
     requires { ⌜ (length (now line) ≡ 128) × (i ≤ length (now input)) ⌝ }
     ensures { λ r. ⌜ Joins turn echo (now (line .entry)) (now (input .entry)) i (now (out .entry)) at r (now (line .exit)) (now (out .exit)) ⌝ }
 {
-    let len = wire::at_most(turn.len, 128);
     let most = run_room(turn, echo, room_at(input.len(), i), room_at(out.len(), at));
-    join_run(line, len, input, i, out, at, echo, most)
+    join_run(line, turn.len, input, i, out, at, echo, most)
 }
 
 // The last command has 128 bytes at most, whatever size says.
@@ -416,6 +415,7 @@ fn take_bytes(line: &mut [u8; 128], turn: Turn, flags: Flags, input: &[u8], out:
     ensures { λ r. ⌜ ((state : Settings) → Shows state flags →
         Serves (serverLent (bytesSay (length (now (out .entry))) (shown turn state (now (line .entry))) (now (input .entry))) (now (out .entry))) state (now (line .exit)) r (now (out .exit))) ⌝ }
     ensures { λ r. ⌜ length (now (line .exit)) ≡ 128 ⌝ }
+    ensures { λ r. ⌜ ((q : Refusal) → r .answer ≡ ServerAnswer.Refused q → r .taken ≡ 0 → Leaves turn (now (line .entry)) r (now (line .exit))) ⌝ }
 {
     let mut turn = turn;
     let mut i: usize = 0;
@@ -502,6 +502,7 @@ impl ServerSession {
     // Bytes from the reader, one after the other: it stops after the one that hands a command out, or before the one that gets a number.
     pub fn bytes(mut self, input: &[u8], out: &mut [u8]) -> ServerStep
         ensures { λ r. ⌜ serverStep r (now (out .exit)) ≡ serverLent (bytesSay (length (now (out .entry))) (session self) (now (input .entry))) (now (out .entry)) ⌝ }
+        ensures { λ r. ⌜ ((q : Refusal) → r .answer ≡ ServerAnswer.Refused q → r .taken ≡ 0 → r .session ≡ self) ⌝ }
     {
         let turn = self.turn;
         let flags = read_flags(
