@@ -5,12 +5,12 @@ use Prim.Native.Nat.{ℕ, _+_, _-_, _≤_, _<_}
 use native.Mathlib.Omega.{arith}
 use lib.ListN.{length, take, drop, getD}
 use borrow.Author.Needs.{needs}
-use Rattle.wire.specs.Call.{lent}
+use Rattle.server_session.specs.Call.{ServerServed, serverLent}
 use Rattle.server_session.specs.Session.{Session, session}
 use Rattle.server_session.specs.Bytes.{byteSays}
 use Rattle.driver_log.specs.Log.{Turn}
 use Rattle.driver_log.specs.Script.{calls}
-use Rattle.driver_server.specs.Server.{serverCall, serverAt, byteNoted, bytesNoted, sentNoted}
+use Rattle.driver_server.specs.Server.{serverCall, serverAt, callNoted}
 use Rattle.driver_log.proofs.LogLaws.{answered-is}
 use Rattle.driver_log.proofs.ScriptLaws.{calls-turn, calls-end}
 use Rattle.driver_server.proofs.CallLaws.{server-rare}
@@ -90,8 +90,8 @@ byte-of-requires c κs = search needs
 byte-requires : tie.Need-byte-requires Inv-loop μ-loop
 byte-requires c κs = search needs
 
-byte-code-requires : tie.Need-byte-code-requires Inv-loop μ-loop
-byte-code-requires c κs = search needs
+answer-code-requires : tie.Need-answer-code-requires Inv-loop μ-loop
+answer-code-requires c κs = search needs
 
 put-call-requires : tie.Need-put-call-requires Inv-loop μ-loop
 put-call-requires c κs = search needs
@@ -100,7 +100,7 @@ loop-less : tie.Need-loop-less Inv-loop μ-loop
 loop-less c = less (c .before .before .before .before .before .before .before .before .before .before .before .before .before .before)
 
 loop-again : tie.Need-loop-again Inv-loop μ-loop
-loop-again c = let k = c .before .before .before .before .before .before .before .before .before .before .before .before .before .before in (there k, search needs, search needs, turned k 1 _ (c .before .before .before .before .before .before .before .before .before .before .before .before .before .match .keys1) (answered-is _ 0 (c .before .before .before .before .before .before .before .before .before .byte .result .written) (c .before .before .before .before .byte-code .ensures) (c .before .before .put-call .ensures) ∙ ap (byteNoted (here k)) (c .before .before .before .before .before .before .before .before .before .byte .ensures) ∙ ap (λ b. byteNoted (here k) (lent (byteSays (length (here k .out)) (here k .session) b) (here k .out))) (c .before .before .before .before .before .before .before .before .before .before .before .byte-of .ensures)))
+loop-again c = let k = c .before .before .before .before .before .before .before .before .before .before .before .before .before .before in (there k, search needs, search needs, turned k 1 _ (c .before .before .before .before .before .before .before .before .before .before .before .before .before .match .keys1) (answered-is _ 0 (c .before .before .before .before .before .before .before .before .before .byte .result .written) (c .before .before .before .before .answer-code .ensures) (c .before .before .put-call .ensures) ∙ ap (callNoted (here k) 0) (c .before .before .before .before .before .before .before .before .before .byte .ensures .0) ∙ ap (λ b. callNoted (here k) 0 (serverLent (byteSays (length (here k .out)) (here k .session) b) (here k .out))) (c .before .before .before .before .before .before .before .before .before .before .before .byte-of .ensures)))
 
 sub-bytes : tie.Need-sub-bytes Inv-loop μ-loop
 sub-bytes c = search needs
@@ -114,8 +114,8 @@ part-bytes-end c = search needs
 bytes-requires : tie.Need-bytes-requires Inv-loop μ-loop
 bytes-requires c κs = search needs
 
-byte-code-requires-2 : tie.Need-byte-code-requires-2 Inv-loop μ-loop
-byte-code-requires-2 c κs = search needs
+answer-code-requires-2 : tie.Need-answer-code-requires-2 Inv-loop μ-loop
+answer-code-requires-2 c κs = search needs
 
 put-call-requires-2 : tie.Need-put-call-requires-2 Inv-loop μ-loop
 put-call-requires-2 c κs = search needs
@@ -124,7 +124,7 @@ loop-less-2 : tie.Need-loop-less-2 Inv-loop μ-loop
 loop-less-2 c = less (c .before .before .before .before .before .before .before .before .before .before .before .before .before)
 
 loop-again-2 : tie.Need-loop-again-2 Inv-loop μ-loop
-loop-again-2 c = let k = c .before .before .before .before .before .before .before .before .before .before .before .before .before in (there k, search needs, search needs, turned k 2 _ (c .before .before .before .before .before .before .before .before .before .before .before .before .match .keys2) (answered-is _ (c .before .before .before .before .before .before .before .before .before .bytes .result .taken) (c .before .before .before .before .before .before .before .before .before .bytes .result .written) (c .before .before .before .before .byte-code2 .ensures) (c .before .before .put-call2 .ensures) ∙ ap (bytesNoted (here k)) (c .before .before .before .before .before .before .before .before .before .bytes .ensures)))
+loop-again-2 c = let k = c .before .before .before .before .before .before .before .before .before .before .before .before .before in (there k, search needs, search needs, turned k 2 _ (c .before .before .before .before .before .before .before .before .before .before .before .before .match .keys2) (answered-is _ (c .before .before .before .before .before .before .before .before .before .bytes .result .taken) (c .before .before .before .before .before .before .before .before .before .bytes .result .written) (c .before .before .before .before .answer-code2 .ensures) (c .before .before .put-call2 .ensures) ∙ ap (λ (r : ServerServed). callNoted (here k) (r .taken) r) (c .before .before .before .before .before .before .before .before .before .bytes .ensures .0)))
 
 sub-reply : tie.Need-sub-reply Inv-loop μ-loop
 sub-reply c = search needs
@@ -138,8 +138,8 @@ part-reply-end c = search needs
 reply-requires : tie.Need-reply-requires Inv-loop μ-loop
 reply-requires c κs = search needs
 
-sent-code-requires : tie.Need-sent-code-requires Inv-loop μ-loop
-sent-code-requires c κs = search needs
+answer-code-requires-3 : tie.Need-answer-code-requires-3 Inv-loop μ-loop
+answer-code-requires-3 c κs = search needs
 
 put-call-requires-3 : tie.Need-put-call-requires-3 Inv-loop μ-loop
 put-call-requires-3 c κs = search needs
@@ -148,7 +148,7 @@ loop-less-3 : tie.Need-loop-less-3 Inv-loop μ-loop
 loop-less-3 c = less (c .before .before .before .before .before .before .before .before .before .before .before .before .before)
 
 loop-again-3 : tie.Need-loop-again-3 Inv-loop μ-loop
-loop-again-3 c = let k = c .before .before .before .before .before .before .before .before .before .before .before .before .before in (there k, search needs, search needs, turned k 3 _ (c .before .before .before .before .before .before .before .before .before .before .before .before .match .keys3) (answered-is _ 0 (c .before .before .before .before .before .before .before .before .before .reply .result .written) (c .before .before .before .before .sent-code .ensures) (c .before .before .put-call3 .ensures) ∙ ap (sentNoted (here k)) (c .before .before .before .before .before .before .before .before .before .reply .ensures)))
+loop-again-3 c = let k = c .before .before .before .before .before .before .before .before .before .before .before .before .before in (there k, search needs, search needs, turned k 3 _ (c .before .before .before .before .before .before .before .before .before .before .before .before .match .keys3) (answered-is _ 0 (c .before .before .before .before .before .before .before .before .before .reply .result .written) (c .before .before .before .before .answer-code3 .ensures) (c .before .before .put-call3 .ensures) ∙ ap (callNoted (here k) 0) (c .before .before .before .before .before .before .before .before .before .reply .ensures .0)))
 
 slice-aggregate-answer : tie.Need-slice-aggregate-answer Inv-loop μ-loop
 slice-aggregate-answer c = search needs
@@ -165,8 +165,8 @@ part-answer-end c = search needs
 answer-requires : tie.Need-answer-requires Inv-loop μ-loop
 answer-requires c κs = search needs
 
-sent-code-requires-2 : tie.Need-sent-code-requires-2 Inv-loop μ-loop
-sent-code-requires-2 c κs = search needs
+answer-code-requires-4 : tie.Need-answer-code-requires-4 Inv-loop μ-loop
+answer-code-requires-4 c κs = search needs
 
 put-call-requires-4 : tie.Need-put-call-requires-4 Inv-loop μ-loop
 put-call-requires-4 c κs = search needs
@@ -175,7 +175,7 @@ loop-less-4 : tie.Need-loop-less-4 Inv-loop μ-loop
 loop-less-4 c = less (c .before .before .before .before .before .before .before .before .before .before .before .before .before .before)
 
 loop-again-4 : tie.Need-loop-again-4 Inv-loop μ-loop
-loop-again-4 c = let k = c .before .before .before .before .before .before .before .before .before .before .before .before .before .before in (there k, search needs, search needs, turned k 4 _ (c .before .before .before .before .before .before .before .before .before .before .before .before .before .match .keys4) (answered-is _ 0 (c .before .before .before .before .before .before .before .before .before .answer .result .written) (c .before .before .before .before .sent-code2 .ensures) (c .before .before .put-call4 .ensures) ∙ ap (sentNoted (here k)) (c .before .before .before .before .before .before .before .before .before .answer .ensures)))
+loop-again-4 c = let k = c .before .before .before .before .before .before .before .before .before .before .before .before .before .before in (there k, search needs, search needs, turned k 4 _ (c .before .before .before .before .before .before .before .before .before .before .before .before .before .match .keys4) (answered-is _ 0 (c .before .before .before .before .before .before .before .before .before .answer .result .written) (c .before .before .before .before .answer-code4 .ensures) (c .before .before .put-call4 .ensures) ∙ ap (callNoted (here k) 0) (c .before .before .before .before .before .before .before .before .before .answer .ensures .0)))
 
 sub-rare : tie.Need-sub-rare Inv-loop μ-loop
 sub-rare c = search needs
@@ -221,7 +221,7 @@ run-spec =
     part-byte-of-end
     byte-of-requires
     byte-requires
-    byte-code-requires
+    answer-code-requires
     put-call-requires
     loop-less
     loop-again
@@ -229,7 +229,7 @@ run-spec =
     part-bytes-start
     part-bytes-end
     bytes-requires
-    byte-code-requires-2
+    answer-code-requires-2
     put-call-requires-2
     loop-less-2
     loop-again-2
@@ -237,7 +237,7 @@ run-spec =
     part-reply-start
     part-reply-end
     reply-requires
-    sent-code-requires
+    answer-code-requires-3
     put-call-requires-3
     loop-less-3
     loop-again-3
@@ -246,7 +246,7 @@ run-spec =
     part-answer-start
     part-answer-end
     answer-requires
-    sent-code-requires-2
+    answer-code-requires-4
     put-call-requires-4
     loop-less-4
     loop-again-4
