@@ -29,8 +29,8 @@ phaseCode phase.AtCommand = 1
 phaseCode phase.ObdCommand = 2
 
 -- a session's state: the four settings, the phase, the last command, and the line as far as it is read or the command handed out
-abbrev pub stateEntry : Session → List ℕ
-stateEntry s =
+abbrev pub serverEntry : Session → List ℕ
+serverEntry s =
     (flagByte (s .state .echo) ∷ flagByte (s .state .linefeeds) ∷ flagByte (s .state .spaces) ∷ flagByte (s .state .headers) ∷ phaseCode (s .phase) ∷ []) ++
     (textEntry (s .state .last) ++ textEntry (s .line))
 
@@ -39,12 +39,12 @@ abbrev pub callNoted : Turn Session → ℕ → ServerServed → Turn Session
 callNoted t taken r = answered (t .at) (t .log) (answerCode (r .answer)) taken (r .written) (r .next) (r .out)
 
 -- the calls that are made more rarely: 5 is `reject`, 6 `answer` with the argument as the identity string for ATI; any other shows the state
-abbrev pub rareCall : Turn Session → ℕ → List ℕ → Turn Session
-rareCall t kind arg =
+abbrev pub rareServerCall : Turn Session → ℕ → List ℕ → Turn Session
+rareServerCall t kind arg =
     let s = t .session in
     let out = t .out in
     cond (eqb kind 5) (callNoted t 0 (serverLent (rejectSays (length out) s arg) out))
-    (cond (eqb kind 6) (callNoted t 0 (serverLent (answerSays (length out) s arg (ascii "ELM327")) out)) (noted s (t .at) out (t .log) (stateEntry s)))
+    (cond (eqb kind 6) (callNoted t 0 (serverLent (answerSays (length out) s arg (ascii "ELM327")) out)) (noted s (t .at) out (t .log) (serverEntry s)))
 
 -- a call by its kind: 1 is `byte` with the argument's first byte, 2 `bytes`, 3 `reply`, 4 `answer` with the argument as the identity string for AT@1
 abbrev pub serverCall : Turn Session → ℕ → List ℕ → Turn Session
@@ -55,7 +55,7 @@ serverCall t kind arg =
     cond (eqb kind 1) (callNoted t 0 (serverLent (byteSays (length out) s (getD arg 0 0)) out))
     (cond (eqb kind 2) (callNoted t (heard .taken) (serverLent heard out))
     (cond (eqb kind 3) (callNoted t 0 (serverLent (replySays (length out) s arg) out))
-    (cond (eqb kind 4) (callNoted t 0 (serverLent (answerSays (length out) s (ascii "ELM327 v1.5") arg) out)) (rareCall t kind arg))))
+    (cond (eqb kind 4) (callNoted t 0 (serverLent (answerSays (length out) s (ascii "ELM327 v1.5") arg) out)) (rareServerCall t kind arg))))
 
 abbrev pub serverTurn : ServerTurn → List ℕ → List ℕ → Turn Session
 serverTurn r out log = record { session = session (r .session); at = r .at; out = out; log = log }

@@ -10,7 +10,7 @@ ghost use Rattle.server_session.specs.Session.{session, freshSession};
 ghost use Rattle.server_session.specs.Call.{serverAnswer};
 ghost use Rattle.driver_log.specs.Log.{textEntry, loggedOf, loggedAs};
 ghost use Rattle.driver_log.specs.Script.{calls, rounds};
-ghost use Rattle.driver_server.specs.Server.{answerCode, phaseCode, stateEntry, rareCall, serverCall, serverTurn, serverAt, serverRun};
+ghost use Rattle.driver_server.specs.Server.{answerCode, phaseCode, serverEntry, rareServerCall, serverCall, serverTurn, serverAt, serverRun};
 
 // A session after some calls of a script, and the position in the log after their entries.
 struct ServerTurn {
@@ -58,7 +58,7 @@ fn put_line(server: ServerSession, log: &mut [u8], at: usize) -> usize
 
 // The entry of a session's state: the four settings, the phase, the last command, and the line as far as it is read or the command handed out.
 fn put_state(server: ServerSession, log: &mut [u8], at: usize) -> usize
-    ensures { λ r. ⌜ Put (now (log .entry)) at (stateEntry (session server)) r (now (log .exit)) ⌝ }
+    ensures { λ r. ⌜ Put (now (log .entry)) at (serverEntry (session server)) r (now (log .exit)) ⌝ }
 {
     let state = server.state;
     let turn = server.turn;
@@ -84,7 +84,7 @@ fn rare(
     log: &mut [u8],
     at: usize,
 ) -> ServerTurn
-    ensures { λ r. ⌜ serverTurn r (now (out .exit)) (now (log .exit)) ≡ rareCall (serverAt (session server) at (now (out .entry)) (now (log .entry))) kind (now (arg .entry)) ⌝ }
+    ensures { λ r. ⌜ serverTurn r (now (out .exit)) (now (log .exit)) ≡ rareServerCall (serverAt (session server) at (now (out .entry)) (now (log .entry))) kind (now (arg .entry)) ⌝ }
 {
     match kind {
         5 => {

@@ -22,7 +22,7 @@ use Rattle.line_list.proofs.StepLaws.{left-end}
 use Rattle.reply.specs.Shape.{chipReply}
 use Rattle.reply.specs.Reply.{lineText, replyText}
 use Rattle.reply.specs.Answers.{ReplyWritten, replyWritten, replied}
-use Rattle.reply.specs.Steps.{sizeAnswer, sizeWith, replySize, Room}
+use Rattle.reply.specs.Steps.{sizeAnswer, sizeWith, replySize, LinesFit}
 use Rattle.reply.specs.declared.ReplyAnswer.the-variants.{Written, Refused}
 use Rattle.reply.specs.declared.ReplySize.{ReplySize}
 use Rattle.reply.specs.declared.ReplySize.the-variants as size
@@ -148,7 +148,7 @@ module _ (linefeeds spaces headers : Bool) where
             let (ls, rest, g, n) = size-told q d in
             replied-written ls rest g (omega arith) (rw (list-none ls rest g e) p)
 
-        pub answer-room : {n : ℕ} → r ≡ size.Size n → n ≤ length out → 0 < length s → Room linefeeds spaces headers s out
+        pub answer-room : {n : ℕ} → r ≡ size.Size n → n ≤ length out → 0 < length s → LinesFit linefeeds spaces headers s out
         answer-room d h e =
             let (ls, rest, g, n) = size-told q d in
             record { lines = ls; rest = rest; reads = g; fits = omega (arith, ap length (list-some ls rest g e)) }

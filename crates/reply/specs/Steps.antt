@@ -33,7 +33,7 @@ unfoldable pub replySize : Bool → Bool → Bool → List ℕ → Answer ℕ
 replySize linefeeds spaces headers list = sizeWith linefeeds spaces headers (lineList list)
 
 -- A list is well formed, and a buffer has room for its lines and the prompt.
-pub record Room (linefeeds spaces headers : Bool) (list out : List ℕ) : Type 0 where
+pub record LinesFit (linefeeds spaces headers : Bool) (list out : List ℕ) : Type 0 where
   pub lines : List Line
   pub rest : List ℕ
   pub reads : lineList list ≡ got lines rest

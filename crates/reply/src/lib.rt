@@ -15,7 +15,7 @@ ghost use Rattle.line_list.specs.Lines.{Line, line, lineList};
 ghost use Rattle.reply.specs.Shape.{chipReply};
 ghost use Rattle.reply.specs.Reply.{ecuId, spaceIf, furtherHex, lineText};
 ghost use Rattle.reply.specs.Answers.{replyWritten, replied};
-ghost use Rattle.reply.specs.Steps.{headerSize, dataSize, sizeAnswer, replySize, Room};
+ghost use Rattle.reply.specs.Steps.{headerSize, dataSize, sizeAnswer, replySize, LinesFit};
 
 pub enum ReplyAnswer {
     // So many bytes stand at the front of out.
@@ -227,7 +227,7 @@ fn reply_size(list: &[u8], linefeeds: bool, spaces: bool, headers: bool) -> Repl
 
 // The lines of a well-formed list, then the prompt, from the start of out on, where there is room for them.
 fn write_lines(list: &[u8], linefeeds: bool, spaces: bool, headers: bool, out: &mut [u8]) -> usize
-    requires { ⌜ Room linefeeds spaces headers (now list) (now out) ⌝ }
+    requires { ⌜ LinesFit linefeeds spaces headers (now list) (now out) ⌝ }
     ensures { λ r. ⌜ ((ls : List Line) (rest : List ℕ) → lineList (now (list .entry)) ≡ got ls rest → Put (now (out .entry)) 0 (chipReply linefeeds (map (lineText spaces headers) ls)) r (now (out .exit))) ⌝ }
 {
     let mut cursor = LineCursor { at: 0 };

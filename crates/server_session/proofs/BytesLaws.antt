@@ -82,7 +82,8 @@ run-more b text rest s room l j d q =
     let line : s .line ++ (b ∷ text) ≡ l ++ text = rw (← j, append-assoc) in
     let h = bytesSay (room - length (echoed s b) - length (echoes s text)) (withLine s (l ++ text) Reading) rest in
     let more : 1 + (length text + h .taken) ≡ suc (length text) + h .taken = omega arith in
-    bytes-on room s b (text ++ rest) on ∙ rw (d, q, echo-cons (s .state .echo) b text, less, line, append-assoc) (λ i. record { answer = h .answer; taken = more i; next = h .next; text = echoed s b ++ (echoes s text ++ h .text) })
+    bytes-on room s b (text ++ rest) on ∙ rw (d, q, echo-cons (s .state .echo) b text, less, line, append-assoc)
+    (λ i. record { answer = h .answer; taken = more i; next = h .next; text = echoed s b ++ (echoes s text ++ h .text) })
 
 -- bytes that are not special, in turn and with room, join the line, and the others follow
 pub bytes-run : (text rest : List ℕ) (s : Session) (room : ℕ) → any isSpecial text ≡ false → s .phase ≡ Reading → length (s .line) + length text ≤ 128 → length (echoes s text) + 8 ≤ room →

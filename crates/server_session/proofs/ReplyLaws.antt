@@ -35,7 +35,7 @@ use Rattle.server_session.specs.declared.ServerSession.{ServerSession}
 use Rattle.server_session.specs.declared.ServerStep.{ServerStep}
 use Rattle.server_session.specs.Session.{Session, session}
 use Rattle.server_session.specs.Call.{ServerSaid, serverRefusing, ServerServed, serverStep, serverLent}
-use Rattle.server_session.specs.Replies.{answered, atAnswered, answerSays, isObd, lastAfter, repliedTo, replySays, rejectSays}
+use Rattle.server_session.specs.Replies.{lineAwaited, atAnswered, answerSays, isObd, lastAfter, repliedTo, replySays, rejectSays}
 
 -- the step that sends what was written, with some settings, and the one that is refused
 abbrev pub sentStep : ClientState → List ℕ → ℕ → ServerStep
@@ -46,7 +46,7 @@ refusedStep self r = record { answer = answer.Refused r; taken = 0; written = 0;
 
 -- a text that fits is sent whole
 pub sent : (state : ClientState) (line text : List ℕ) {out left : List ℕ} {w : ℕ} → Put out 0 text w left → length text ≤ length out →
-    serverStep (sentStep state line w) left ≡ serverLent (answered (settings state) text) out
+    serverStep (sentStep state line w) left ≡ serverLent (lineAwaited (settings state) text) out
 sent state line text {out} {left} {w} p h =
     let all : w ≡ length text = omega (arith, put-whole p (omega arith)) in
     rw (all, p .bytes)
@@ -83,8 +83,8 @@ module _ (self : ServerSession) (ati device : List ℕ) (state : ClientState) (k
       Put out 0 (chipReply (settings state .linefeeds) (kindLines ati device kind)) w left →
       serverStep (sentStep state (self .line) w) left ≡ serverLent (atAnswered (session self) ati device) out
   at-sent {out} {left} {w} fits p =
-      let same : answered (settings state) (chipReply (settings state .linefeeds) (kindLines ati device kind)) ≡ atAnswered (session self) ati device =
-      λ t. answered (s t) (chipReply ((s t) .linefeeds) (kindLines ati device (k t))) in
+      let same : lineAwaited (settings state) (chipReply (settings state .linefeeds) (kindLines ati device kind)) ≡ atAnswered (session self) ati device =
+      λ t. lineAwaited (s t) (chipReply ((s t) .linefeeds) (kindLines ati device (k t))) in
       let long = ap (λ (d : ServerSaid). length (d .text)) same in
       sent state (self .line) (chipReply (settings state .linefeeds) (kindLines ati device kind)) p (omega arith) ∙ ap (λ d. serverLent d out) same
 
@@ -131,14 +131,15 @@ module _ (self : ServerSession) (list : List ℕ) (out left : List ℕ) (turn : 
       rw (t, none))
       (λ t. rw t (some-lines ls (λ z. eqb-false (length list) 0 t (no-lines 64 list rest (g ∙ rw z)))))
 
-  pub reply-sent : (n : ℕ) (state : ClientState) → R.replyWritten (Written n) left ≡ R.replied lf sp hd list out → settings state ≡ cond (eqb (length list) 0) (s .state) (withLast (s .state) (s .line)) →
+  pub reply-sent : (n : ℕ) (state : ClientState) → R.replyWritten (Written n) left ≡ R.replied lf sp hd list out →
+      settings state ≡ cond (eqb (length list) 0) (s .state) (withLast (s .state) (s .line)) →
       serverStep (sentStep state (self .line) n) left ≡ serverLent (replySays (length out) s list) out
   unfolding replySays unless
   reply-sent n state q k =
       let (ls, rest, g, fits, p) = written-told lf sp hd list out q in
       let text = replyText lf sp hd ls in
       let e : replySays (length out) s list ≡ repliedTo s ls = rw (turn, g, le-ltb (length out) (length text) fits) in
-      sent state (self .line) text p fits ∙ ap (λ x. serverLent (answered x text) out) (k ∙ kept-after ls rest g) ∙ ap (λ d. serverLent d out) (sym e)
+      sent state (self .line) text p fits ∙ ap (λ x. serverLent (lineAwaited x text) out) (k ∙ kept-after ls rest g) ∙ ap (λ d. serverLent d out) (sym e)
 
 -- What the contracts give a caller: the bytes to send stand inside the lent buffer.
 within : (d : ServerSaid) (out left : List ℕ) (r : ServerStep) → length (d .text) ≤ length out → serverStep r left ≡ serverLent d out → r .written ≤ length out

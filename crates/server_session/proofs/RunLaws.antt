@@ -25,7 +25,7 @@ use Rattle.server_session.specs.declared.Run.{Run}
 use Rattle.server_session.specs.Session.{Session, isReading}
 use Rattle.server_session.specs.Call.{ServerSaid, serverAnswer, ServerServed, serverLent}
 use Rattle.server_session.specs.Bytes.{withLine, echoes, byteSays, goesOn, bytesSay}
-use Rattle.server_session.specs.Steps.{Does, Leaves, Serves, Shows, shown, isSpecial, RunFits, Ran, Joins}
+use Rattle.server_session.specs.Steps.{ByteDoes, Leaves, Serves, Shows, turnSession, isSpecial, RunFits, Ran, Joins}
 use Rattle.server_session.proofs.ByteLaws.{reading, text-short, taken-most}
 use Rattle.server_session.proofs.StepLaws.{line-size}
 use Rattle.server_session.proofs.BytesLaws.{after, bytes-on, bytes-stop, echo-append, echo-less, bytes-some}
@@ -107,14 +107,14 @@ pub record Leads (state : Settings) (input : List ℕ) (t : Turn) (line : List �
   pub there : i₁ ≤ length input
   pub inside : at₁ ≤ length o
   pub same : length o ≡ length out
-  pub says : servedFrom i₁ at₁ (bytesSay (length o - at₁) (shown t₁ state line₁) (drop i₁ input)) o ≡ servedFrom i at (bytesSay (length out - at) (shown t state line) (drop i input)) out
+  pub says : servedFrom i₁ at₁ (bytesSay (length o - at₁) (turnSession t₁ state line₁) (drop i₁ input)) o ≡ servedFrom i at (bytesSay (length out - at) (turnSession t state line) (drop i input)) out
 
 -- A turn of the loop: its run
 
 module _ (t : Turn) (state : Settings) (line input out : List ℕ) (i at : ℕ) (f : Flags) (shows : Shows state f) (r : Run) (l o : List ℕ) (k : length line ≡ 128)
     (inside : at ≤ length out) (there : i ≤ length input) (run : Joins t (f .echo) line input i out at r l o) where
   abbrev s : Session
-  s = shown t state line
+  s = turnSession t state line
 
   abbrev count : ℕ
   count = run .to .count
@@ -134,7 +134,7 @@ module _ (t : Turn) (state : Settings) (line input out : List ℕ) (i at : ℕ) 
   text-long : length text ≡ count
   text-long = omega (arith, length-take count (drop i input), length-drop i input, ran .within, fits .there)
 
-  joins : shown then state l ≡ withLine s (s .line ++ text) (t .phase)
+  joins : turnSession then state l ≡ withLine s (s .line ++ text) (t .phase)
   joins =
       let joined : take (r .len) l ≡ take (t .len) line ++ text =
       ap (λ n. take n l) (run .to .ends) ∙ ran .joined in
@@ -191,24 +191,24 @@ leaves-from n p q v = record { same = v .same ∙ p; kept = v .kept ∙ q; plain
 
 -- A turn of the loop: the byte after it
 
-pub one-most : (room : ℕ) (s : Session) (b : ℕ) {state : Settings} {line out out₁ : List ℕ} {at : ℕ} {r : Did} → Does (byteSays room s b) state line out at r out₁ → r .taken ≤ 1
+pub one-most : (room : ℕ) (s : Session) (b : ℕ) {state : Settings} {line out out₁ : List ℕ} {at : ℕ} {r : Did} → ByteDoes (byteSays room s b) state line out at r out₁ → r .taken ≤ 1
 one-most room s b q = omega (arith, q .taken, taken-most room s b)
 
 module _ (t : Turn) (state : Settings) (line input out : List ℕ) (i at : ℕ) (r : Did) (l o : List ℕ)
-    (inside : at ≤ length out) (here : i < length input) (does : Does (byteSays (length out - at) (shown t state line) (getD input i 0)) state l out at r o) where
+    (inside : at ≤ length out) (here : i < length input) (does : ByteDoes (byteSays (length out - at) (turnSession t state line) (getD input i 0)) state l out at r o) where
   abbrev said : ServerSaid
-  said = byteSays (length out - at) (shown t state line) (getD input i 0)
+  said = byteSays (length out - at) (turnSession t state line) (getD input i 0)
 
   fit : at + length (said .text) ≤ length out
-  fit = omega (arith, text-short (length out - at) (shown t state line) (getD input i 0) .1)
+  fit = omega (arith, text-short (length out - at) (turnSession t state line) (getD input i 0) .1)
 
   pub byte-turn : goesOn (serverAnswer (r .answer)) ≡ true → Leads state input t line i at out (r .turn) l (i + 1) (r .at) o
   byte-turn e =
       let room : length o - r .at ≡ length out - at - length (said .text) = omega (arith, put-whole (does .text) fit, put-length (does .text)) in
       let h = bytesSay (length out - at - length (said .text)) (said .next) (drop (i + 1) input) in
-      let says : bytesSay (length out - at) (shown t state line) (drop i input) ≡ after 1 (said .text) h =
-      rw (add-one, drop-cons input i 0 here) (bytes-on (length out - at) (shown t state line) (getD input i 0) (drop (suc i) input) (sym (ap goesOn (does .answer)) ∙ e)) in
-      let next : shown (r .turn) state l ≡ said .next = rw (does .plain e) at (does .next) in
+      let says : bytesSay (length out - at) (turnSession t state line) (drop i input) ≡ after 1 (said .text) h =
+      rw (add-one, drop-cons input i 0 here) (bytes-on (length out - at) (turnSession t state line) (getD input i 0) (drop (suc i) input) (sym (ap goesOn (does .answer)) ∙ e)) in
+      let next : turnSession (r .turn) state l ≡ said .next = rw (does .plain e) at (does .next) in
       record {
         there = omega arith;
         inside = omega (arith, put-inside (does .text) inside, put-length (does .text));
@@ -217,10 +217,11 @@ module _ (t : Turn) (state : Settings) (line input out : List ℕ) (i at : ℕ) 
       }
 
   pub byte-stop : goesOn (serverAnswer (r .answer)) ≡ false →
-      Serves (servedFrom i at (bytesSay (length out - at) (shown t state line) (drop i input)) out) state l (record { answer = r .answer; turn = r .turn; taken = i + r .taken; at = r .at; repeat = r .repeat }) o
+      Serves (servedFrom i at (bytesSay (length out - at) (turnSession t state line) (drop i input)) out) state l
+      (record { answer = r .answer; turn = r .turn; taken = i + r .taken; at = r .at; repeat = r .repeat }) o
   byte-stop e =
-      let says : bytesSay (length out - at) (shown t state line) (drop i input) ≡ said =
-      rw (drop-cons input i 0 here) (bytes-stop (length out - at) (shown t state line) (getD input i 0) (drop (suc i) input) (sym (ap goesOn (does .answer)) ∙ e)) in
+      let says : bytesSay (length out - at) (turnSession t state line) (drop i input) ≡ said =
+      rw (drop-cons input i 0 here) (bytes-stop (length out - at) (turnSession t state line) (getD input i 0) (drop (suc i) input) (sym (ap goesOn (does .answer)) ∙ e)) in
       let end : r .at ≡ at + length (said .text) = put-whole (does .text) fit in
       record {
         served = rw says (λ j. record { answer = does .answer j; taken = i + does .taken j; written = end j; next = does .next j; out = does .text .bytes j });
@@ -229,7 +230,7 @@ module _ (t : Turn) (state : Settings) (line input out : List ℕ) (i at : ℕ) 
 
 -- no byte is left
 pub bytes-end : (room : ℕ) (t : Turn) (state : Settings) (line input out : List ℕ) (i at : ℕ) (a : ServerAnswer) → length input ≤ i → serverAnswer a ≡ result (t .phase) →
-    Serves (servedFrom i at (bytesSay room (shown t state line) (drop i input)) out) state line (record { answer = a; turn = t; taken = i; at = at; repeat = false }) out
+    Serves (servedFrom i at (bytesSay room (turnSession t state line) (drop i input)) out) state line (record { answer = a; turn = t; taken = i; at = at; repeat = false }) out
 unfolding bytesSay
 bytes-end room t state line input out i at a h e = record { served = rw (drop-of-length-le input h, e) (simp add-zero); again = λ e. from-no cc }
 

@@ -30,7 +30,7 @@ use Rattle.server_session.specs.declared.ServerAnswer.the-variants as an
 use Rattle.server_session.specs.Session.{Session, session}
 use Rattle.server_session.specs.Call.{ServerSaid, serverRefusing, serverAnswer, ServerServed, serverStep, serverLent}
 use Rattle.server_session.specs.Bytes.{canonical, withLine, echoed, commandPhase, emptyLine, lineEnd, byteTaken, byteSays}
-use Rattle.server_session.specs.Steps.{Does, Leaves, Serves, Shows, shown, left}
+use Rattle.server_session.specs.Steps.{ByteDoes, Leaves, Serves, Shows, turnSession, left}
 use Rattle.server_session.proofs.ByteLaws.{Open, open-of, end-result, empty-none, empty-last, line-empty, line-command, afterText, taken-cr, taken-lf, taken-plain}
 
 -- as many bytes of a line count as it has
@@ -41,20 +41,23 @@ pub line-cut : (n : ℕ) (line : List ℕ) → length line ≡ 128 → take (min
 line-cut n line k = rw (← line-size n line k) (take-cut n line)
 
 -- a text is put, and a step goes on after it
-pub does-after : {d : ServerSaid} {state : Settings} {line e out o₁ left : List ℕ} {at a : ℕ} {r : Did} → Put out at e a o₁ → Does d state line o₁ a r left → Does (afterText e d) state line out at r left
+pub does-after : {d : ServerSaid} {state : Settings} {line e out o₁ left : List ℕ} {at a : ℕ} {r : Did} → Put out at e a o₁ → ByteDoes d state line o₁ a r left →
+    ByteDoes (afterText e d) state line out at r left
 does-after p q = record { answer = q .answer; taken = q .taken; next = q .next; text = put-then p (q .text); plain = q .plain; again = q .again }
 
 -- the end of an empty line
 module _ (s : Session) (line : List ℕ) (f : Flags) (h : Shows (s .state) f) (out : List ℕ) (at : ℕ) where
   pub empty-unknown : {o : List ℕ} {end : ℕ} → f .last ≡ 0 → Put out at (chipReply (f .linefeeds) (ascii "?" ∷ [])) end o →
-      Does (emptyLine s [] (s .state .last)) (s .state) line out at (record { answer = answer.Reading; turn = record { phase = phase.Reading; len = 0 }; taken = 1; at = end; repeat = false }) o
+      ByteDoes (emptyLine s [] (s .state .last)) (s .state) line out at (record { answer = answer.Reading; turn = record { phase = phase.Reading; len = 0 }; taken = 1; at = end; repeat = false }) o
   empty-unknown z p =
       let ending = ap (λ (b : Bool). chipReply b (ascii "?" ∷ [])) (h .linefeeds) in
       rw (empty-none s [] (s .state .last) (h .last ∙ z)) (record { answer = refl; taken = refl; next = refl; text = rw ending p; plain = λ _. refl; again = λ e. from-no cc })
 
   pub empty-repeat : (f .last ≡ 0 → ⊥) →
-      Does (emptyLine s [] (s .state .last)) (s .state) line out at (record { answer = answer.ObdCommand; turn = record { phase = phase.ObdCommand; len = f .last }; taken = 1; at = at; repeat = true }) out
-  empty-repeat z = rw (empty-last s [] (s .state .last) (λ e. z (sym (h .last) ∙ e))) (record { answer = refl; taken = refl; next = refl; text = put-none out at; plain = λ e. from-no cc; again = λ _. sym (h .last) })
+      ByteDoes (emptyLine s [] (s .state .last)) (s .state) line out at
+      (record { answer = answer.ObdCommand; turn = record { phase = phase.ObdCommand; len = f .last }; taken = 1; at = at; repeat = true }) out
+  empty-repeat z = rw (empty-last s [] (s .state .last) (λ e. z (sym (h .last) ∙ e)))
+      (record { answer = refl; taken = refl; next = refl; text = put-none out at; plain = λ e. from-no cc; again = λ _. sym (h .last) })
 
 -- the end of a line whose command was made in place
 module _ (s : Session) (line₀ : List ℕ) (len : ℕ) (q : s .line ≡ take len line₀) (k : length line₀ ≡ 128) (line : List ℕ) (n : ℕ) (made : take n line ≡ canonical (take (min len 128) line₀)) where
@@ -65,7 +68,7 @@ module _ (s : Session) (line₀ : List ℕ) (len : ℕ) (q : s .line ≡ take le
   end-empty z = let none : take n line ≡ [] = rw z in line-empty s [] (canonical (s .line)) (ap length (sym command ∙ none))
 
   pub end-command : length line ≡ 128 → (n ≡ 0 → ⊥) → (out : List ℕ) (at : ℕ) (a : ServerAnswer) (p : Phase) → serverAnswer a ≡ result p → p ≡ commandPhase (take n line) →
-      Does (lineEnd s [] (canonical (s .line))) (s .state) line out at (record { answer = a; turn = record { phase = p; len = n }; taken = 1; at = at; repeat = false }) out
+      ByteDoes (lineEnd s [] (canonical (s .line))) (s .state) line out at (record { answer = a; turn = record { phase = p; len = n }; taken = 1; at = at; repeat = false }) out
   end-command j some out at a p e c =
       let says = ap (lineEnd s []) (sym command) ∙ line-command s [] (take n line) (λ e. some (omega (arith, length-take n line))) in
       rw (says, ← c) (record { answer = e; taken = refl; next = refl; text = put-none out at; plain = λ _. refl; again = λ e. from-no cc })
@@ -78,7 +81,8 @@ pub result-goes : {P : Type 0} {a : ServerAnswer} {p : Phase} {q : Refusal} → 
 result-goes {p = p} {q = q} e d = from-no (cc (ap serverAnswer d))
 
 -- the end of a line is never refused
-pub end-accepted : (s : Session) {state : Settings} {line out out₁ : List ℕ} {at : ℕ} {r : Did} {q : Refusal} → Does (lineEnd s [] (canonical (s .line))) state line out at r out₁ → r .answer ≡ answer.Refused q → ⊥
+pub end-accepted : (s : Session) {state : Settings} {line out out₁ : List ℕ} {at : ℕ} {r : Did} {q : Refusal} →
+    ByteDoes (lineEnd s [] (canonical (s .line))) state line out at r out₁ → r .answer ≡ answer.Refused q → ⊥
 end-accepted s {q = q} d e =
     let (p, z, _) = end-result s [] (canonical (s .line)) in
     let w : refused (number q) ≡ result p = sym (ap serverAnswer e) ∙ d .answer ∙ z in
@@ -87,10 +91,11 @@ end-accepted s {q = q} d e =
 -- a byte's verdict is found first: nothing is done where it is refused
 module _ (t : Turn) (state : Settings) (line : List ℕ) (b : ℕ) {room free : ℕ} (v : Verdict) (e : room ≡ free) where
   abbrev s : Session
-  s = shown t state line
+  s = turnSession t state line
 
   module _ (q : byteSays room s b ≡ settled v (serverRefusing s) (byteTaken s b)) where
-    pub does-refuse : (r : Refusal) → v ≡ Refused r → (out : List ℕ) (at : ℕ) → Does (byteSays free s b) state line out at (record { answer = answer.Refused r; turn = t; taken = 0; at = at; repeat = false }) out
+    pub does-refuse : (r : Refusal) → v ≡ Refused r → (out : List ℕ) (at : ℕ) →
+        ByteDoes (byteSays free s b) state line out at (record { answer = answer.Refused r; turn = t; taken = 0; at = at; repeat = false }) out
     does-refuse r k out at = rw (← e, q, k) (record { answer = refl; taken = refl; next = refl; text = put-none out at; plain = λ _. refl; again = λ e. from-no cc })
 
     -- and where it is accepted, it is taken, its echo written
@@ -108,14 +113,15 @@ module _ (t : Turn) (state : Settings) (line : List ℕ) (b : ℕ) {room free : 
         echo : Put out at (echoed s b) end o₁
         echo = rw (shows .echo) put
 
-        pub take-cr : {r : Did} {line₁ left : List ℕ} → b ≡ 13 → Does (lineEnd s [] (canonical (s .line))) state line₁ o₁ end r left → Does (byteSays free s b) state line₁ out at r left
+        pub take-cr : {r : Did} {line₁ left : List ℕ} → b ≡ 13 → ByteDoes (lineEnd s [] (canonical (s .line))) state line₁ o₁ end r left → ByteDoes (byteSays free s b) state line₁ out at r left
         take-cr c d = rw (says, taken-cr s b c) (does-after echo d)
 
-        pub take-lf : b ≡ 10 → Does (byteSays free s b) state line out at (record { answer = answer.Reading; turn = t; taken = 1; at = end; repeat = false }) o₁
+        pub take-lf : b ≡ 10 → ByteDoes (byteSays free s b) state line out at (record { answer = answer.Reading; turn = t; taken = 1; at = end; repeat = false }) o₁
         take-lf c = rw (says, taken-lf s b c) (record { answer = rw (accepted .turn); taken = refl; next = refl; text = echo; plain = λ _. refl; again = λ e. from-no cc })
 
         pub take-plain : (b ≡ 13 → ⊥) → (b ≡ 10 → ⊥) → length line ≡ 128 →
-            Does (byteSays free s b) state (set line (t .len) b) out at (record { answer = answer.Reading; turn = record { phase = phase.Reading; len = t .len + 1 }; taken = 1; at = end; repeat = false }) o₁
+            ByteDoes (byteSays free s b) state (set line (t .len) b) out at
+            (record { answer = answer.Reading; turn = record { phase = phase.Reading; len = t .len + 1 }; taken = 1; at = end; repeat = false }) o₁
         take-plain no-cr no-lf k =
             let joined : take (t .len + 1) (set line (t .len) b) ≡ take (t .len) line ++ (b ∷ []) = rw add-one (take-suc-set line (t .len) b (omega (arith, take-fits no-cr no-lf k))) in
             rw (says, taken-plain s b no-cr no-lf)
@@ -150,7 +156,8 @@ pub kept-plain : {P : Type 0} (self : ServerSession) (d : Did) (line : List ℕ)
 kept-plain self d line v e = let x = v .plain in from-no cc
 
 -- a byte from the front of the buffer on, whose text fits
-pub does-lent : {d : ServerSaid} {state : Settings} {line out o : List ℕ} {r : Did} (s : ServerSession) → length (d .text) ≤ length out → Does d state line out 0 r o → session s ≡ left r state line →
+pub does-lent : {d : ServerSaid} {state : Settings} {line out o : List ℕ} {r : Did} (s : ServerSession) → length (d .text) ≤ length out → ByteDoes d state line out 0 r o →
+    session s ≡ left r state line →
     serverStep (record { answer = r .answer; taken = r .taken; written = r .at; session = s }) o ≡ serverLent d out
 does-lent {d} {r = r} s h q e =
     let w : r .at ≡ length (d .text) = omega (arith, put-whole (q .text) (omega arith)) in

@@ -30,14 +30,14 @@ isObd AtCommand = false
 isObd ObdCommand = true
 
 -- the command is answered, and the next line is awaited
-abbrev pub answered : Settings → List ℕ → ServerSaid
-answered s text = serverSaying 0 (record { state = s; line = []; phase = Reading }) text
+abbrev pub lineAwaited : Settings → List ℕ → ServerSaid
+lineAwaited s text = serverSaying 0 (record { state = s; line = []; phase = Reading }) text
 
 abbrev pub atAnswered : Session → List ℕ → List ℕ → ServerSaid
 atAnswered s ati device =
     let kind = atKind (s .line) in
     let next = kindSettings kind (s .state) in
-    answered next (chipReply (next .linefeeds) (kindLines ati device kind))
+    lineAwaited next (chipReply (next .linefeeds) (kindLines ati device kind))
 
 -- an AT answer: no AT command is handed out; an identity string over 32 bytes; a byte of 80 or more in one; room under 48
 unfoldable pub answerSays : ℕ → Session → List ℕ → List ℕ → ServerSaid
@@ -55,7 +55,7 @@ lastAfter [] s = s .state
 lastAfter (l ∷ ls) s = withLast (s .state) (s .line)
 
 abbrev pub repliedTo : Session → List Line → ServerSaid
-repliedTo s ls = answered (lastAfter ls s) (replyText (s .state .linefeeds) (s .state .spaces) (s .state .headers) ls)
+repliedTo s ls = lineAwaited (lastAfter ls s) (replyText (s .state .linefeeds) (s .state .spaces) (s .state .headers) ls)
 
 -- a reply: no OBD command is handed out; not a line list; a text longer than the room
 unfoldable pub replySays : ℕ → Session → List ℕ → ServerSaid
@@ -68,7 +68,7 @@ replySays room s list =
     (serverRefusing s) d
 
 abbrev pub rejected : Session → List ℕ → ServerSaid
-rejected s text = answered (s .state) (chipReply (s .state .linefeeds) (text ∷ []))
+rejected s text = lineAwaited (s .state) (chipReply (s .state .linefeeds) (text ∷ []))
 
 -- a rejection: no OBD command is handed out; over 64 bytes; a byte of 80 or more; a text longer than the room
 unfoldable pub rejectSays : ℕ → Session → List ℕ → ServerSaid

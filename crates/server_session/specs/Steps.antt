@@ -19,8 +19,8 @@ use Rattle.server_session.specs.Call.{ServerSaid, ServerServed, serverAn
 use Rattle.server_session.specs.Bytes.{goesOn}
 
 -- the session of a turn, some settings and a line
-abbrev pub shown : Turn → Settings → List ℕ → Session
-shown t state line = record { state = state; line = take (t .len) line; phase = t .phase }
+abbrev pub turnSession : Turn → Settings → List ℕ → Session
+turnSession t state line = record { state = state; line = take (t .len) line; phase = t .phase }
 
 -- What reading goes by of the settings.
 pub record Shows (state : Settings) (f : Flags) : Type 0 where
@@ -33,7 +33,7 @@ abbrev pub left : Did → Settings → List ℕ → Session
 left d state line = record { state = state; line = cond (d .repeat) (state .last) (take (d .turn .len) line); phase = d .turn .phase }
 
 -- A byte that writes from a position of the out buffer on does what is said. Where the last command is repeated it is the line, and no more bytes are looked at.
-pub record Does (d : ServerSaid) (state : Settings) (line out : List ℕ) (at : ℕ) (r : Did) (out₁ : List ℕ) : Type 0 where
+pub record ByteDoes (d : ServerSaid) (state : Settings) (line out : List ℕ) (at : ℕ) (r : Did) (out₁ : List ℕ) : Type 0 where
   pub answer : serverAnswer (r .answer) ≡ d .answer
   pub taken : r .taken ≡ d .taken
   pub next : left r state line ≡ d .next

@@ -19,7 +19,7 @@ ghost use Rattle.client_state.specs.Settings.{Settings};
 ghost use Rattle.server_session.specs.Session.{Session, session, freshSession, isReading};
 ghost use Rattle.server_session.specs.Call.{serverRefusing, serverAnswer, serverStep, serverLent};
 ghost use Rattle.server_session.specs.Bytes.{canonical, commandPhase, emptyLine, lineEnd, byteTaken, byteSays, goesOn, bytesSay};
-ghost use Rattle.server_session.specs.Steps.{Does, Leaves, isSpecial, Shows, shown, Serves, RunFits, RanTo, Joins};
+ghost use Rattle.server_session.specs.Steps.{ByteDoes, Leaves, isSpecial, Shows, turnSession, Serves, RunFits, RanTo, Joins};
 
 // Who speaks next.
 pub enum Phase {
@@ -304,7 +304,7 @@ fn read_flags(echo: bool, linefeeds: bool, size: usize) -> Flags
 
 // The end of an empty line: the last command is handed out, or `?` is written when there is none.
 fn end_empty(flags: Flags, out: &mut [u8], at: usize) -> Did
-    ensures { λ r. ⌜ ((s : Session) (line : List ℕ) → Shows (s .state) flags → Does (emptyLine s [] (s .state .last)) (s .state) line (now (out .entry)) at r (now (out .exit))) ⌝ }
+    ensures { λ r. ⌜ ((s : Session) (line : List ℕ) → Shows (s .state) flags → ByteDoes (emptyLine s [] (s .state .last)) (s .state) line (now (out .entry)) at r (now (out .exit))) ⌝ }
 {
     if flags.last == 0 {
         let end = reply::put_text_reply(out, at, b"?", flags.linefeeds);
@@ -337,7 +337,7 @@ fn end_empty(flags: Flags, out: &mut [u8], at: usize) -> Did
 fn end_line(line: &mut [u8; 128], len: usize, flags: Flags, out: &mut [u8], at: usize) -> Did
     requires { ⌜ length (now line) ≡ 128 ⌝ }
     ensures { λ r. ⌜ ((s : Session) → s .line ≡ take len (now (line .entry)) → Shows (s .state) flags →
-        Does (lineEnd s [] (canonical (s .line))) (s .state) (now (line .exit)) (now (out .entry)) at r (now (out .exit))) ⌝ }
+        ByteDoes (lineEnd s [] (canonical (s .line))) (s .state) (now (line .exit)) (now (out .entry)) at r (now (out .exit))) ⌝ }
     ensures { λ r. ⌜ length (now (line .exit)) ≡ 128 ⌝ }
 {
     let n = make_canonical(line, wire::at_most(len, 128));
@@ -366,7 +366,7 @@ fn take_byte(
 ) -> Did
     requires { ⌜ length (now line) ≡ 128 ⌝ }
     ensures { λ r. ⌜ ((state : Settings) → Shows state flags →
-        Does (byteSays (length (now (out .entry)) - at) (shown turn state (now (line .entry))) b) state (now (line .exit)) (now (out .entry)) at r (now (out .exit))) ⌝ }
+        ByteDoes (byteSays (length (now (out .entry)) - at) (turnSession turn state (now (line .entry))) b) state (now (line .exit)) (now (out .entry)) at r (now (out .exit))) ⌝ }
     ensures { λ r. ⌜ length (now (line .exit)) ≡ 128 ⌝ }
     ensures { λ r. ⌜ ((q : Refusal) → r .answer ≡ ServerAnswer.Refused q → Leaves turn (now (line .entry)) r (now (line .exit))) ⌝ }
 {
@@ -413,7 +413,7 @@ fn take_byte(
 fn take_bytes(line: &mut [u8; 128], turn: Turn, flags: Flags, input: &[u8], out: &mut [u8]) -> Did
     requires { ⌜ length (now line) ≡ 128 ⌝ }
     ensures { λ r. ⌜ ((state : Settings) → Shows state flags →
-        Serves (serverLent (bytesSay (length (now (out .entry))) (shown turn state (now (line .entry))) (now (input .entry))) (now (out .entry))) state (now (line .exit)) r (now (out .exit))) ⌝ }
+        Serves (serverLent (bytesSay (length (now (out .entry))) (turnSession turn state (now (line .entry))) (now (input .entry))) (now (out .entry))) state (now (line .exit)) r (now (out .exit))) ⌝ }
     ensures { λ r. ⌜ length (now (line .exit)) ≡ 128 ⌝ }
     ensures { λ r. ⌜ ((q : Refusal) → r .answer ≡ ServerAnswer.Refused q → r .taken ≡ 0 → Leaves turn (now (line .entry)) r (now (line .exit))) ⌝ }
 {

@@ -5,6 +5,7 @@ use crate::ServerSession;
 use crate::ServerStep;
 use crate::Turn;
 use at_command::AtHandled;
+use at_command::AtKind;
 use client_state::ClientState;
 use reply::ReplyAnswer;
 use wire::Refusal;
@@ -112,12 +113,46 @@ fn handled(state: ClientState, line: &[u8], len: usize) -> AtHandled
     at_command::at_handled(state, &line[..size])
 }
 
+// An AT command's answer at the front of out. ati and device are the identity strings for ATI and AT@1.
+fn put_at_answer<'a>(
+    out: &mut [u8],
+    kind: AtKind,
+    ati: &'a [u8],
+    device: &'a [u8],
+    linefeeds: bool,
+) -> usize
+    ensures { λ r. ⌜ Put (now (out .entry)) 0 (chipReply linefeeds (kindLines (now (ati .entry)) (now (device .entry)) kind)) r (now (out .exit)) ⌝ }
+{
+    match kind {
+        AtKind::Reset => {
+            let at = client_state::put_line_ending(out, 0, linefeeds);
+            let at = client_state::put_line_ending(out, at, linefeeds);
+            reply::put_text_reply(out, at, ati, linefeeds)
+        }
+        AtKind::Ati | AtKind::Device => {
+            let text = at_command::identity_text(ati, device, kind);
+            reply::put_text_reply(out, 0, text, linefeeds)
+        }
+        AtKind::Voltage => reply::put_text_reply(out, 0, b"12.6V", linefeeds),
+        AtKind::Protocol => reply::put_text_reply(
+            out,
+            0,
+            b"AUTO, ISO 15765-4 (CAN 11/500)",
+            linefeeds,
+        ),
+        AtKind::ProtocolNumber => reply::put_text_reply(out, 0, b"A6", linefeeds),
+        AtKind::Unknown => reply::put_text_reply(out, 0, b"?", linefeeds),
+        // The switches, and those taken with no effect.
+        _ => reply::put_text_reply(out, 0, b"OK", linefeeds),
+    }
+}
+
 // The answer to the AT command, with the line ending that is then in force.
 fn put_answer<'a>(handled: AtHandled, ati: &'a [u8], device: &'a [u8], out: &mut [u8]) -> usize
     ensures { λ r. ⌜ Put (now (out .entry)) 0 (chipReply (settings (handled .state) .linefeeds) (kindLines (now (ati .entry)) (now (device .entry)) (handled .kind))) r (now (out .exit)) ⌝ }
 {
     let kind = handled.kind;
-    at_answer::put_at_answer(out, kind, ati, device, handled.state.linefeeds_enabled)
+    put_at_answer(out, kind, ati, device, handled.state.linefeeds_enabled)
 }
 
 // The settings after a reply with a line list of some bytes: the first len bytes of a line are the last command, unless there are no lines.

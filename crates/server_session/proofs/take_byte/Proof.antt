@@ -1,7 +1,7 @@
 -- `server_session::take_byte` meets its contract.
 use Rattle.server_session.proofs.StepLaws.{done-goes, line-size, end-accepted, does-refuse, take-cr, take-lf, take-fits, take-plain}
 use Rattle.server_session.proofs.RunLaws.{someSettings, some-shows}
-use Rattle.server_session.specs.Steps.{shown}
+use Rattle.server_session.specs.Steps.{turnSession}
 use Rattle.server_session.specs.Bytes.{byteTaken, byteSays}
 use Rattle.server_session.specs.Call.{serverRefusing}
 use Rattle.server_session.specs.declared.Turn.{Turn}
@@ -32,9 +32,9 @@ module _ (k : tie.After-byte-verdict) where
   byte = start .args .b
 
   found : (state : Settings) →
-      let s = shown turn state line in
+      let s = turnSession turn state line in
       byteSays (k .before .room-at .result) s byte ≡ settled (k .byte-verdict .result) (serverRefusing s) (byteTaken s byte)
-  found state = k .byte-verdict .ensures (shown turn state line) refl (line-size (turn .len) line (start .pre))
+  found state = k .byte-verdict .ensures (turnSession turn state line) refl (line-size (turn .len) line (start .pre))
 
   fits : k .byte-verdict .result ≡ Accepted → (byte ≡ 13 → ⊥) → (byte ≡ 10 → ⊥) → turn .len < 128
   fits on no-cr no-lf =
@@ -51,7 +51,12 @@ enum-known-verdict : tie.Need-enum-known-verdict
 enum-known-verdict c = search needs
 
 returns : tie.Need-returns
-returns c = let k = c .before .before .before in (λ state h. does-refuse (turn k) state (line k) (byte k) (k .byte-verdict .result) (k .before .room-at .ensures) (found k state) _ (c .before .verdict .given .1) _ _, (c .before .before .before .before .before .before .pre, λ q e. record { same = refl; kept = refl; plain = refl }))
+returns c =
+    let k = c .before .before .before in
+    let start = k .before .before .before in (
+      λ state h. does-refuse (turn k) state (line k) (byte k) (k .byte-verdict .result) (k .before .room-at .ensures) (found k state) _ (c .before .verdict .given .1) _ _,
+      (start .pre, λ q e. record { same = refl; kept = refl; plain = refl }),
+    )
 
 enum-told : tie.Need-enum-told
 enum-told c = search needs
@@ -66,25 +71,63 @@ same-length : tie.Need-same-length
 same-length c = search needs
 
 returns-2 : tie.Need-returns-2
-returns-2 c = let k = c .before .before .before .before .before .before .before .before .before .before .before .before in (λ state h. take-cr (turn k) state (line k) (byte k) (k .byte-verdict .result) (k .before .room-at .ensures) (found k state) (c .before .before .before .before .before .before .before .before .before .before .enum-told .given .1) (c .before .before .before .before .before .before .before .before .before .before .before .before .before .before .before .args .flags) h (c .before .before .before .before .before .before .before .before .put-echo .ensures) (c .before .before .before .before .before .if1 .taken) (c .before .before .end-line .ensures .0 _ refl h), (c .before .before .end-line .ensures .1, λ q e. absurd (end-accepted _ (c .before .before .end-line .ensures .0 (shown (turn k) (someSettings (c .before .before .before .before .before .before .before .before .before .before .before .before .before .before .before .args .flags)) (line k)) refl (some-shows (c .before .before .before .before .before .before .before .before .before .before .before .before .before .before .before .args .flags))) e)))
+returns-2 c =
+    let at-if1 = c .before .before .before .before .before in
+    let at-put-echo = at-if1 .before .before .before in
+    let at-enum-told = at-put-echo .before .before in
+    let k = at-enum-told .before .before in
+    let start = k .before .before .before in (
+      λ state h. take-cr (turn k) state (line k) (byte k) (k .byte-verdict .result) (k .before .room-at .ensures) (found k state) (at-enum-told .enum-told .given .1)
+          (start .args .flags) h (at-put-echo .put-echo .ensures) (at-if1 .if1 .taken) (c .before .before .end-line .ensures .0 _ refl h),
+      (
+        c .before .before .end-line .ensures .1,
+        λ q e. absurd (end-accepted _
+            (c .before .before .end-line .ensures .0 (turnSession (turn k) (someSettings (start .args .flags)) (line k)) refl (some-shows (start .args .flags))) e),
+      ),
+    )
 
 same-length-2 : tie.Need-same-length-2
 same-length-2 c = search needs
 
 returns-3 : tie.Need-returns-3
-returns-3 c = let k = c .before .before .before .before .before .before .before .before in (λ state h. take-lf (turn k) state (line k) (byte k) (k .byte-verdict .result) (k .before .room-at .ensures) (found k state) (c .before .before .before .before .before .before .enum-told .given .1) (c .before .before .before .before .before .before .before .before .before .before .before .args .flags) h (c .before .before .before .before .put-echo .ensures) (c .if2 .taken), (c .before .before .before .before .before .before .before .before .before .before .before .pre, λ q e. done-goes e))
+returns-3 c =
+    let at-put-echo = c .before .before .before .before in
+    let at-enum-told = at-put-echo .before .before in
+    let k = at-enum-told .before .before in
+    let start = k .before .before .before in (
+      λ state h. take-lf (turn k) state (line k) (byte k) (k .byte-verdict .result) (k .before .room-at .ensures) (found k state) (at-enum-told .enum-told .given .1)
+          (start .args .flags) h (at-put-echo .put-echo .ensures) (c .if2 .taken),
+      (start .pre, λ q e. done-goes e),
+    )
 
 element-write-line : tie.Need-element-write-line
-element-write-line c = let f = fits (c .before .before .before .before .before .before .before .before) (c .before .before .before .before .before .before .enum-told .given .1) (c .before .if1 .left) (c .if2 .left) in omega (arith, c .before .before .before .before .before .before .before .before .before .before .before .pre)
+element-write-line c =
+    let at-enum-told = c .before .before .before .before .before .before in
+    let at-8 = at-enum-told .before .before in
+    let start = at-8 .before .before .before in
+    let f = fits (at-8) (at-enum-told .enum-told .given .1) (c .before .if1 .left) (c .if2 .left) in
+    omega (arith, start .pre)
 
 add-t12 : tie.Need-add-t12
-add-t12 c = let f = fits (c .before .before .before .before .before .before .before .before) (c .before .before .before .before .before .before .enum-told .given .1) (c .before .if1 .left) (c .if2 .left) in omega arith
+add-t12 c =
+    let at-enum-told = c .before .before .before .before .before .before in
+    let at-8 = at-enum-told .before .before in
+    let f = fits (at-8) (at-enum-told .enum-told .given .1) (c .before .if1 .left) (c .if2 .left) in
+    omega arith
 
 same-length-3 : tie.Need-same-length-3
 same-length-3 c = search needs
 
 returns-4 : tie.Need-returns-4
-returns-4 c = let k = c .before .before .before .before .before .before .before .before in (λ state h. take-plain (turn k) state (line k) (byte k) (k .byte-verdict .result) (k .before .room-at .ensures) (found k state) (c .before .before .before .before .before .before .enum-told .given .1) (c .before .before .before .before .before .before .before .before .before .before .before .args .flags) h (c .before .before .before .before .put-echo .ensures) (c .before .if1 .left) (c .if2 .left) (c .before .before .before .before .before .before .before .before .before .before .before .pre), (simp length-set (c .before .before .before .before .before .before .before .before .before .before .before .pre), λ q e. done-goes e))
+returns-4 c =
+    let at-put-echo = c .before .before .before .before in
+    let at-enum-told = at-put-echo .before .before in
+    let k = at-enum-told .before .before in
+    let start = k .before .before .before in (
+      λ state h. take-plain (turn k) state (line k) (byte k) (k .byte-verdict .result) (k .before .room-at .ensures) (found k state) (at-enum-told .enum-told .given .1)
+          (start .args .flags) h (at-put-echo .put-echo .ensures) (c .before .if1 .left) (c .if2 .left) (start .pre),
+      (simp length-set (start .pre), λ q e. done-goes e),
+    )
 
 pub take-byte-spec : {M : Type 1} → statement M
 take-byte-spec =

@@ -1,9 +1,9 @@
--- `at_answer::put_at_answer` meets its contract: each kind has its lines.
+-- `server_session::replies::put_at_answer` meets its contract: each kind has its lines.
 use borrow.Author.Needs.{needs}
 use Rattle.wire.proofs.PutLaws.{put-then}
-use Rattle.at_answer.proofs.KindLaws.{identity-lines, ok-lines}
-use Rattle.at_answer.proofs.put_at_answer.Statement.{statement}
-use Rattle.at_answer.proofs.put_at_answer.Tie as tie
+use Rattle.server_session.proofs.KindLaws.{identity-lines, ok-lines}
+use Rattle.server_session.proofs.replies.put_at_answer.Statement.{statement}
+use Rattle.server_session.proofs.replies.put_at_answer.Tie as tie
 
 enum-told : tie.Need-enum-told
 enum-told c = search needs
@@ -69,13 +69,23 @@ same-length : tie.Need-same-length
 same-length c = search needs
 
 returns : tie.Need-returns
-returns c = rw (c .before .before .before .before .before .before .before .before .before .before .before .before .enum-told .given .1) (put-then (c .before .before .before .before .before .before .before .before .before .before .put-line-ending .ensures) (put-then (c .before .before .before .before .before .before .put-line-ending2 .ensures) (c .before .before .put-text-reply .ensures)))
+returns c =
+    let at-put-line-ending2 = c .before .before .before .before .before .before in
+    let at-put-line-ending = at-put-line-ending2 .before .before .before .before in
+    let at-enum-told = at-put-line-ending .before .before in
+    rw (at-enum-told .enum-told .given .1) (put-then (at-put-line-ending .put-line-ending .ensures)
+    (put-then (at-put-line-ending2 .put-line-ending2 .ensures) (c .before .before .put-text-reply .ensures)))
 
 same-length-2 : tie.Need-same-length-2
 same-length-2 c = search needs
 
 returns-2 : tie.Need-returns-2
-returns-2 c = rw (identity-lines (λ s. s .now) (c .before .before .before .before .before .before .before .before .before .args .ati) (c .before .before .before .before .before .before .before .before .before .args .device) (c .before .before .before .before .before .before .before .before .before .args .kind) (c .before .before .before .before .before .match .keys2)) (rw (c .before .before .before .before .identity-text .ensures) at (c .before .before .put-text-reply2 .ensures))
+returns-2 c =
+    let at-identity-text = c .before .before .before .before in
+    let at-match = at-identity-text .before in
+    let start = at-match .before .before .before .before in
+    rw (identity-lines (λ s. s .now) (start .args .ati) (start .args .device) (start .args .kind) (at-match .match .keys2))
+    (rw (at-identity-text .identity-text .ensures) at (c .before .before .put-text-reply2 .ensures))
 
 same-length-3 : tie.Need-same-length-3
 same-length-3 c = search needs
@@ -105,7 +115,10 @@ same-length-7 : tie.Need-same-length-7
 same-length-7 c = search needs
 
 returns-7 : tie.Need-returns-7
-returns-7 c = rw (ok-lines (c .before .before .before .before .before .before .before .before .before .args .ati .now) (c .before .before .before .before .before .before .before .before .before .args .device .now) (c .before .before .before .before .before .before .before .before .before .args .kind) (c .before .before .before .before .before .match .keys7)) (c .before .before .put-text-reply7 .ensures)
+returns-7 c =
+    let at-match = c .before .before .before .before .before in
+    let start = at-match .before .before .before .before in
+    rw (ok-lines (start .args .ati .now) (start .args .device .now) (start .args .kind) (at-match .match .keys7)) (c .before .before .put-text-reply7 .ensures)
 
 pub put-at-answer-spec : {M : Type 1} → statement M
 put-at-answer-spec =
