@@ -182,7 +182,8 @@ loop-again-3 c =
       search needs,
       search needs,
       turned k 3 _ (at-match .match .keys3)
-          (answered-is _ 0 (at-reply .reply .result .written) (at-answer-code3 .answer-code3 .ensures) (c .before .before .put-call3 .ensures) ∙ ap (callNoted (here k) 0) (at-reply .reply .ensures .0)),
+          (answered-is _ 0 (at-reply .reply .result .written) (at-answer-code3 .answer-code3 .ensures) (c .before .before .put-call3 .ensures) ∙
+          ap (callNoted (here k) 0) (at-reply .reply .ensures .0)),
     )
 
 slice-aggregate-answer : tie.Need-slice-aggregate-answer Inv-loop μ-loop
@@ -219,7 +220,8 @@ loop-again-4 c =
       search needs,
       search needs,
       turned k 4 _ (at-match .match .keys4)
-          (answered-is _ 0 (at-answer .answer .result .written) (at-answer-code4 .answer-code4 .ensures) (c .before .before .put-call4 .ensures) ∙ ap (callNoted (here k) 0) (at-answer .answer .ensures .0)),
+          (answered-is _ 0 (at-answer .answer .result .written) (at-answer-code4 .answer-code4 .ensures) (c .before .before .put-call4 .ensures) ∙
+          ap (callNoted (here k) 0) (at-answer .answer .ensures .0)),
     )
 
 sub-rare : tie.Need-sub-rare Inv-loop μ-loop
