@@ -4,14 +4,14 @@ use mathlib.Core.Bool.{Bool, true}
 use mathlib.Core.List.{List, [], _∷_, _++_, append-assoc}
 use Prim.Native.Nat.{ℕ, zero, suc, _+_, _-_, _≤_, _<_}
 use native.Mathlib.Omega.{arith}
-use lib.ListN.{length, take, drop, length-append, length-drop, take-append-drop}
+use lib.ListN.{length, drop, length-append, take-append-drop}
 use lib.Seq.{length-take-le, drop-append-seam}
 use Rattle.wire.proofs.ListLaws.{Ends, ends-more}
 use Rattle.wire.proofs.Cases.{by-test, from-no}
 use Rattle.wire.proofs.All.{Bytes}
-use Rattle.group.specs.Group.{Read, got, failed, malformed, andThen}
+use Rattle.group.specs.Group.{Read, got, failed, andThen}
 use Rattle.group.specs.Format.{Format, readByte, byte, anyGroup, group, bytesOf, field, last, having, limitedTo, counted, Each, writeRow, readRow, rowOf, readAll}
-use Rattle.group.proofs.GroupLaws.{groupBytes-some, read-written, group-written, group-got, only-written, read-rest, bytes-written, bytes-got, then-got, bytes-append}
+use Rattle.group.proofs.GroupLaws.{read-written, group-written, group-got, only-written, read-rest, bytes-written, bytes-got, then-got, bytes-append}
 
 pub record Lawful {A : Type 0} (f : Format A) : Type 0 where
   pub back : (a : A) (rest : List ℕ) → f .Fits a → f .read (f .write a ++ rest) ≡ got a rest
