@@ -114,16 +114,18 @@ module _ {A : Type 0} (f : Format A) where
   left-none zero s at h k q = absurd (omega arith)
   left-none (suc n) s at h k q = all-more f n (drop at s) (omega (arith, length-drop at s)) ∙ rw q
 
+  -- also where there may be no other
+  pub left-fails : (n : ℕ) (s : List ℕ) (at : ℕ) {j : ℕ} → at < length s → f .read (drop at s) ≡ failed j → (k : ℕ) × (readAll f n (drop at s) ≡ failed k)
+  left-fails zero s at h q = (5, left-full s at h)
+  left-fails (suc n) s at {j} h q = (j, left-none (suc n) s at (omega arith) h q)
+
 -- Of a row that was read whole: at the end nothing is left, and no step is refused.
 module _ {A : Type 0} (f : Format A) (n : ℕ) (s : List ℕ) (at : ℕ) (xs : List A) (rest : List ℕ) (q : readAll f n (drop at s) ≡ got xs rest) where
   pub checked-end : length s ≤ at → xs ≡ []
   checked-end h = let e = left-end f n s at h in cc
 
   pub checked-none : {j : ℕ} → at < length s → f .read (drop at s) ≡ failed j → ⊥
-  checked-none h p = none-left n q h p where
-    none-left : (n : ℕ) → readAll f n (drop at s) ≡ got xs rest → {j : ℕ} → at < length s → f .read (drop at s) ≡ failed j → ⊥
-    none-left zero q h p = let e = left-full f s at h in from-no cc
-    none-left (suc n) q h p = let e = left-none f (suc n) s at (omega arith) h p in from-no cc
+  checked-none h p = let (k, e) = left-fails f n s at h p in from-no cc
 
 module _ {A : Type 0} {f : Format A} (s : List ℕ) (at : ℕ) {x : A} {next : ℕ} (w : ThingAt f s at x next) where
   pub left-thing : (n : ℕ) → readAll f (suc n) (drop at s) ≡ andThen (readAll f n (drop next s)) (λ xs t. got (x ∷ xs) t)
