@@ -9,7 +9,7 @@ use lib.Dec.{ltb}
 use lib.ListN.{length}
 use lib.Seq.{sets, length-sets}
 use borrow.Author.Tests.{ltb-true, ltb-false}
-use Rattle.wire.specs.Answer.{Answer, result, refused}
+use Rattle.wire.specs.Answer.{Answer, result, refused, unless}
 use Rattle.wire.specs.Call.{Said}
 use Rattle.wire.specs.Text.{ascii, has, high}
 use Rattle.wire.proofs.All.{Bytes}
@@ -30,7 +30,7 @@ use Rattle.client_session.proofs.StartLaws.{query-repeated, query-in-full}
 use Rattle.client_session.proofs.PiecesLaws.{Awaiting, prompted}
 use Rattle.group.specs.Group.{Read, got}
 use Rattle.group.specs.Group.{malformed as none}
-use Rattle.script.specs.Script.{Query, readQueries, queriesOf, script}
+use Rattle.script.specs.Script.{Query, queriesOf, queryFormat, script}
 use Rattle.bench.specs.Exchange.{Exchanged, exchanged}
 use Rattle.bench.specs.Run as run
 use Rattle.bench.specs.Run.{sendRoom, replyRoom, valuesRoom, Bench, Turn, turn, onward, later, startSays, Part, partOf, finished, part, asked, runSays, runRead, initialised}
@@ -225,7 +225,7 @@ by-reading repeat ks room (got qs rest) ok = read-ends repeat ks room qs (ok qs 
 
 -- "3, 5, then as it runs 8 or 6" (READING-01.md), on every script, which is bytes
 pub run-ends : (repeat : Bool) (ks : List ℕ) (room : ℕ) (s : List ℕ) → Bytes s → Ends (runSays repeat ks room s .answer)
-unfolding runSays script
+unfolding runSays script unless queryFormat
 run-ends repeat ks room s b =
     by-test (ltb 16384 (length s))
     (λ e. rw e too-long)

@@ -3,23 +3,24 @@ use mathlib.Core.Path.{refl}
 use mathlib.Core.List.{[], _∷_}
 use native.Mathlib.Omega.{arith}
 use lib.ListN.{replicate}
+use Rattle.wire.specs.Answer.{unless}
 use Rattle.group.specs.Group.{groupBytes}
 use Rattle.group.specs.Answers.{groupAt}
 use Rattle.line_list.specs.Lines.{line, Fits, lineList}
 use Rattle.line_list.specs.Answers.{lineAt, linesIn}
-use Rattle.value.specs.Values.{valueBytes, readRecord}
+use Rattle.value.specs.Values.{valueFormat, readRecord}
 use Rattle.value.specs.Answers.{valueAt}
 use Rattle.value.specs.Same.{SameRecord}
 use Rattle.pid.specs.J1979.{j1979}
 use Rattle.pid.specs.Lengths.{mode01Lengths}
-use Rattle.script.specs.Script.{query, script}
+use Rattle.script.specs.Script.{query, queryFormat, script}
 use Rattle.script.specs.Answers.{queryAt, queriesIn}
 use Rattle.script.specs.Written.{AllInLimits}
 use Rattle.cards.specs.Example.{AsExpected}
 use Rattle.cards.specs.Numbers.{numbers, twoParts}
 
 pub numbers-hold : AsExpected numbers
-unfolding groupBytes groupAt lineList lineAt linesIn valueBytes readRecord valueAt j1979 mode01Lengths script queryAt queriesIn
+unfolding groupBytes groupAt lineList lineAt linesIn valueFormat readRecord valueAt j1979 mode01Lengths script unless queryFormat queryAt queriesIn
 numbers-hold = (refl, (refl, (refl, (refl, (refl, (refl, (refl, (refl, (refl, (refl, (refl, (refl, (refl, (refl, (refl, (refl, (refl, (refl, (refl, (refl, (refl, (refl, (refl, (refl, (refl, (refl, (refl, (refl, (refl, (refl, (refl, tt)))))))))))))))))))))))))))))))
 
 -- a record equals itself, and bytes that are no record equal nothing

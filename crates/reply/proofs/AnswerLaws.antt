@@ -16,9 +16,9 @@ use Rattle.wire.specs.Text.{ascii}
 use Rattle.wire.proofs.Cases.{from-no}
 use Rattle.wire.proofs.UnlessLaws.{Passed}
 use Rattle.wire.proofs.PutLaws.{put-whole}
-use Rattle.group.specs.Group.{Read, got, malformed, isMalformed, listOf}
-use Rattle.line_list.specs.Lines.{Line, lineList}
-use Rattle.line_list.proofs.StepLaws.{left-end}
+use Rattle.group.specs.Group.{Read, got, failed, isMalformed, listOf}
+use Rattle.line_list.specs.Lines.{Line, lineList, lineFormat}
+use Rattle.group.proofs.WalkLaws.{left-end}
 use Rattle.reply.specs.Shape.{chipReply}
 use Rattle.reply.specs.Reply.{lineText, replyText}
 use Rattle.reply.specs.Answers.{ReplyWritten, replyWritten, replied}
@@ -29,7 +29,7 @@ use Rattle.reply.specs.declared.ReplySize.the-variants as size
 use Rattle.reply.proofs.TextLaws.{no-lines}
 
 of-read : (g : Read (List Line)) → isMalformed g ≡ false → (ls : List Line) × (rest : List ℕ) × (g ≡ got ls rest)
-of-read malformed e = from-no cc
+of-read (failed j) e = from-no cc
 of-read (got ls rest) e = (ls, rest, refl)
 
 -- What is said of a text that is written at the front of a buffer, or refused, tells which: a refusal is that of every call with these rows.
@@ -71,11 +71,11 @@ module _ (linefeeds spaces headers : Bool) where
 
   of-size : (g : Read (List Line)) (n : ℕ) → sizeWith linefeeds spaces headers g ≡ result n →
       (ls : List Line) × (rest : List ℕ) × (g ≡ got ls rest) × (length (replyText linefeeds spaces headers ls) ≡ n)
-  of-size malformed n q = from-no cc
+  of-size (failed j) n q = from-no cc
   of-size (got ls rest) n q = (ls, rest, refl, cc)
 
-  of-refused : (g : Read (List Line)) (n : ℕ) → sizeWith linefeeds spaces headers g ≡ refused n → (g ≡ malformed) × (n ≡ 5)
-  of-refused malformed n q = (refl, cc)
+  of-refused : (g : Read (List Line)) (n : ℕ) → sizeWith linefeeds spaces headers g ≡ refused n → (j : ℕ) × (g ≡ failed j) × (n ≡ 5)
+  of-refused (failed j) n q = (j, refl, cc)
   of-refused (got ls rest) n q = from-no cc
 
   module _ (s : List ℕ) where
@@ -86,7 +86,7 @@ module _ (linefeeds spaces headers : Bool) where
     unfolding replySize
     size-told {r} {n} q d = of-size (lineList s) n (sym q ∙ ap sizeAnswer d)
 
-    size-refused : {r : ReplySize} {q : Refusal} → sizeAnswer r ≡ replySize linefeeds spaces headers s → r ≡ size.Refused q → (lineList s ≡ malformed) × (number q ≡ 5)
+    size-refused : {r : ReplySize} {q : Refusal} → sizeAnswer r ≡ replySize linefeeds spaces headers s → r ≡ size.Refused q → (j : ℕ) × (lineList s ≡ failed j) × (number q ≡ 5)
     unfolding replySize
     size-refused {r} {q} e d = of-refused (lineList s) (number q) (sym e ∙ ap sizeAnswer d)
 
@@ -95,7 +95,7 @@ module _ (linefeeds spaces headers : Bool) where
     module _ (ls : List Line) (rest : List ℕ) (q : lineList s ≡ got ls rest) where
       pub list-none : length s ≤ 0 → replyText linefeeds spaces headers ls ≡ chipReply linefeeds (ascii "NO DATA" ∷ [])
       unfolding lineList
-      list-none h = let e = left-end 64 s 0 h in let none : ls ≡ [] = cc in rw none reply-none
+      list-none h = let e = left-end lineFormat 64 s 0 h in let none : ls ≡ [] = cc in rw none reply-none
 
       pub list-some : 0 < length s → replyText linefeeds spaces headers ls ≡ chipReply linefeeds (map (lineText spaces headers) ls)
       unfolding lineList
@@ -137,7 +137,7 @@ module _ (linefeeds spaces headers : Bool) where
       module _ {r : ReplySize} (q : sizeAnswer r ≡ replySize linefeeds spaces headers s) where
         pub answer-refused : {a : Refusal} → r ≡ size.Refused a → replyWritten (Refused a) out ≡ replied linefeeds spaces headers s out
         unfolding replied unless
-        answer-refused d = let (g, n) = size-refused q d in rw (g, n)
+        answer-refused d = let (j, g, n) = size-refused q d in rw (g, n)
 
         pub answer-small : {n : ℕ} → r ≡ size.Size n → length out < n → replyWritten (Refused SmallBuffer) out ≡ replied linefeeds spaces headers s out
         answer-small d h = let (ls, rest, g, n) = size-told q d in replied-small ls rest g (omega arith)

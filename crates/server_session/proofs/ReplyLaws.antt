@@ -13,8 +13,8 @@ use Rattle.wire.specs.declared.Refusal.{Refusal}
 use Rattle.wire.proofs.UnlessLaws.{unless-by}
 use Rattle.wire.proofs.Cases.{by-test, from-no, or-none}
 use Rattle.group.specs.Group.{got, isMalformed, listOf}
-use Rattle.line_list.specs.Lines.{Line, lineList}
-use Rattle.line_list.proofs.StepLaws.{left-end}
+use Rattle.line_list.specs.Lines.{Line, lineList, lineFormat}
+use Rattle.group.proofs.WalkLaws.{left-end}
 use Rattle.wire.specs.Put.{Put}
 use Rattle.wire.specs.Text.{ascii}
 use Rattle.wire.proofs.PutLaws.{put-whole}
@@ -126,7 +126,7 @@ module _ (self : ServerSession) (list : List ℕ) (out left : List ℕ) (turn : 
   kept-after ls rest g =
       by-test (eqb (length list) 0)
       (λ t.
-      let g₂ = left-end 64 list 0 (omega (arith, eqb-true (length list) 0 t)) in
+      let g₂ = left-end lineFormat 64 list 0 (omega (arith, eqb-true (length list) 0 t)) in
       let none : ls ≡ [] = cc in
       rw (t, none))
       (λ t. rw t (some-lines ls (λ z. eqb-false (length list) 0 t (no-lines 64 list rest (g ∙ rw z)))))

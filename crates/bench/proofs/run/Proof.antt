@@ -1,6 +1,7 @@
 -- `bench::run` meets its contract.
+use mathlib.Core.Path.{_∙_}
 use borrow.Author.Needs.{needs}
-use Rattle.script.proofs.CheckLaws.{check-queries, check-long, check-none}
+use Rattle.script.proofs.CheckLaws.{check-queries, check-none}
 use Rattle.bench.proofs.RunLaws.{script-refused}
 use Rattle.bench.proofs.run.Statement.{statement}
 use Rattle.bench.proofs.run.Tie as tie
@@ -17,17 +18,14 @@ run-checked-requires c κs =
     let q = check-queries (m .before .before .before .before .args .script .now) (m .check-script .ensures) (c .before .enum-told .given .1) in
     (q .0, q .1)
 
-enum-told-2 : tie.Need-enum-told-2
-enum-told-2 c = search needs
+enum-known-refusal : tie.Need-enum-known-refusal
+enum-known-refusal c = search needs
+
+number-requires : tie.Need-number-requires
+number-requires c κs = search needs
 
 refused-requires : tie.Need-refused-requires
 refused-requires c κs = search needs
-
-enum-told-3 : tie.Need-enum-told-3
-enum-told-3 c = search needs
-
-refused-requires-2 : tie.Need-refused-requires-2
-refused-requires-2 c κs = search needs
 
 same-length : tie.Need-same-length
 same-length c = search needs
@@ -37,17 +35,12 @@ returns c = search needs
 
 returns-2 : tie.Need-returns-2
 returns-2 c =
-    let m = c .before .before .before in
+    let refusal = c .before .before .before in
+    let m = refusal .before .before in
     let s = m .before .before .before .before in
-    script-refused (s .args .repeat) (s .args .lengths .now) (s .args .script .now) (s .args .buffer .now) 3 (c .refused .result)
-    (check-long (s .args .script .now) (m .check-script .ensures) (c .before .enum-told2 .given .1)) (c .refused .ensures)
-
-returns-3 : tie.Need-returns-3
-returns-3 c =
-    let m = c .before .before .before in
-    let s = m .before .before .before .before in
-    script-refused (s .args .repeat) (s .args .lengths .now) (s .args .script .now) (s .args .buffer .now) 5 (c .refused2 .result)
-    (check-none (s .args .script .now) (m .check-script .ensures) (c .before .enum-told3 .given .1)) (c .refused2 .ensures)
+    let number = c .before .number .ensures in
+    script-refused (s .args .repeat) (s .args .lengths .now) (s .args .script .now) (s .args .buffer .now) _ (c .refused .result)
+    (check-none (s .args .script .now) (m .check-script .ensures) (refusal .refusal .given .1)) (c .refused .ensures ∙ rw number)
 
 pub run-spec : {M : Type 1} → statement M
 run-spec =
@@ -56,11 +49,9 @@ run-spec =
     check-script-requires
     enum-told
     run-checked-requires
-    enum-told-2
+    enum-known-refusal
+    number-requires
     refused-requires
-    enum-told-3
-    refused-requires-2
     same-length
     returns
-    returns-2
-    returns-3)
+    returns-2)
