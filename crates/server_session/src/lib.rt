@@ -413,7 +413,8 @@ fn take_byte(
 fn take_bytes(line: &mut [u8; 128], turn: Turn, flags: Flags, input: &[u8], out: &mut [u8]) -> Did
     requires { ⌜ length (now line) ≡ 128 ⌝ }
     ensures { λ r. ⌜ ((state : Settings) → Shows state flags →
-        Serves (serverLent (bytesSay (length (now (out .entry))) (turnSession turn state (now (line .entry))) (now (input .entry))) (now (out .entry))) state (now (line .exit)) r (now (out .exit))) ⌝ }
+        Serves (serverLent (bytesSay (length (now (out .entry))) (turnSession turn state (now (line .entry))) (now (input .entry))) (now (out .entry))) state (now (line .exit)) r
+        (now (out .exit))) ⌝ }
     ensures { λ r. ⌜ length (now (line .exit)) ≡ 128 ⌝ }
     ensures { λ r. ⌜ ((q : Refusal) → r .answer ≡ ServerAnswer.Refused q → r .taken ≡ 0 → Leaves turn (now (line .entry)) r (now (line .exit))) ⌝ }
 {
