@@ -98,6 +98,14 @@ fn is_reading(phase: Phase) -> bool
     }
 }
 
+// No command is handed out, and no byte read.
+fn line_awaited() -> Turn
+    ensures { λ r. ⌜ r ≡ record { phase = Phase.Reading; len = 0 } ⌝ }
+{
+    let phase = Phase::Reading;
+    Turn { phase, len: 0 }
+}
+
 // The answer that tells of a phase.
 fn phase_answer(phase: Phase) -> ServerAnswer
     ensures { λ r. ⌜ serverAnswer r ≡ result phase ⌝ }
@@ -308,10 +316,7 @@ fn end_empty(flags: Flags, out: &mut [u8], at: usize) -> Did
 {
     if flags.last == 0 {
         let end = reply::put_text_reply(out, at, b"?", flags.linefeeds);
-        let turn = Turn {
-            phase: Phase::Reading,
-            len: 0,
-        };
+        let turn = line_awaited();
         return Did {
             answer: ServerAnswer::Reading,
             turn,
@@ -455,10 +460,7 @@ impl ServerSession {
         ServerSession {
             state: ClientState::default(),
             line: [0; 128],
-            turn: Turn {
-                phase: Phase::Reading, // no command is handed out
-                len: 0, // nor a byte read
-            },
+            turn: line_awaited(),
         }
     }
 
