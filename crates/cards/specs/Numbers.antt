@@ -11,19 +11,19 @@ use Rattle.group.specs.Answers.{groupRead, groupAt}
 use Rattle.group.specs.declared.GroupRead.the-variants as group
 use Rattle.group.specs.Format.{writeRow}
 use Rattle.line_list.specs.Lines.{line, lineFormat, linesBytes}
-use Rattle.line_list.specs.Answers.{linePlace, listStep, lineAt, linesCheck, linesIn, lineWritten, linePut, putLine}
+use Rattle.line_list.specs.Answers.{listStep, lineAt, linesCheck, linesIn, lineWritten, putLine}
 use Rattle.line_list.specs.declared.LineStep.the-variants as lines
 use Rattle.line_list.specs.declared.LinesCheck.the-variants as list
 use Rattle.line_list.specs.declared.LinePut.the-variants as put
 use Rattle.value.specs.Values.{Value, value, valueFormat, partFormat, readRecord}
-use Rattle.value.specs.Answers.{valuePlace, valueStep, valueAt}
+use Rattle.value.specs.Answers.{valueStep, valueAt}
 use Rattle.value.specs.Same.{ofPid}
 use Rattle.value.specs.declared.ValueStep.the-variants as values
 use Rattle.pid.specs.J1979.{j1979}
 use Rattle.pid.specs.Lengths.{mode01Lengths, entryLength, lengthIn, dataLength, listed, isKnown}
 use Rattle.pid.specs.declared.DataLength.the-variants.{Known, Unknown}
 use Rattle.script.specs.Script.{Query, query, queryFormat, script}
-use Rattle.script.specs.Answers.{queryPlace, queryStep, queryAt, scriptCheck, queriesIn}
+use Rattle.script.specs.Answers.{queryStep, queryAt, scriptCheck, queriesIn}
 use Rattle.script.specs.declared.QueryStep.the-variants as queries
 use Rattle.script.specs.declared.ScriptCheck.the-variants as whole
 use Rattle.cards.specs.Example.{Example, example}
@@ -67,7 +67,7 @@ numbers =
     example "300 is over 255" (groupAt 255 (0xAC ∷ 0x02 ∷ []) 0) (refused 5) ∷
     example "a number that does not end" (groupAt 511 (0x80 ∷ []) 0) (groupRead (group.Refused Malformed)) ∷
     example "one line" (linesIn speedLine) (linesCheck (list.Lines 1)) ∷
-    example "its ECU, its data and the next line" (lineAt speedLine 0) (result (some (linePlace 0 2 5))) ∷
+    example "its ECU, its data and the next line" (lineAt speedLine 0) (result (some (record { ecu = 0; start = 2; next = 5 }))) ∷
     example "no line after it" (lineAt speedLine 5) (listStep lines.End) ∷
     example "an ECU of 4,096 and one of 4,097" (linesIn (0x80 ∷ 0x20 ∷ 0x00 ∷ []) ∷ linesIn (0x81 ∷ 0x20 ∷ 0x00 ∷ []) ∷ []) (result 1 ∷ refused 5 ∷ []) ∷
     example "a line of 256 bytes" (linesIn (0x00 ∷ 0x80 ∷ 0x02 ∷ replicate 256 0)) (linesCheck (list.Refused Malformed)) ∷
@@ -76,16 +76,16 @@ numbers =
     example "a line of 7E8" (linesBytes (line 0x7E9 (0x41 ∷ 0x0D ∷ 0x20 ∷ []) ∷ [])) (0xE9 ∷ 0x0F ∷ 0x03 ∷ 0x41 ∷ 0x0D ∷ 0x20 ∷ []) ∷
     example "an ECU+1 of 4,096 and 255 bytes, written" (lineFormat .write (line 4096 (replicate 255 0x20))) longest ∷
     example "the same read" (lineFormat .read longest) (got (line 4096 (replicate 255 0x20)) []) ∷
-    example "a line written into what it takes, after two bytes" (putLine (replicate 7 0xFF) 2 (line 0 (0x41 ∷ 0x0D ∷ 0x20 ∷ []))) (lineWritten (linePut (put.To 7)) (0xFF ∷ 0xFF ∷ speedLine)) ∷
-    example "a byte less" (putLine (replicate 6 0xFF) 2 (line 0 (0x41 ∷ 0x0D ∷ 0x20 ∷ []))) (lineWritten (linePut (put.Refused SmallBuffer)) (replicate 6 0xFF)) ∷
+    example "a line written into what it takes, after two bytes" (putLine (replicate 7 0xFF) 2 (line 0 (0x41 ∷ 0x0D ∷ 0x20 ∷ []))) (lineWritten (put.To 7) (0xFF ∷ 0xFF ∷ speedLine)) ∷
+    example "a byte less" (putLine (replicate 6 0xFF) 2 (line 0 (0x41 ∷ 0x0D ∷ 0x20 ∷ []))) (lineWritten (put.Refused SmallBuffer) (replicate 6 0xFF)) ∷
     example "an ECU+1 of 4,097, and 256 bytes, for no room" (putLine [] 0 (line 4097 []) ∷ putLine [] 0 (line 0 (replicate 256 0)) ∷ [])
-    (replicate 2 (lineWritten (linePut (put.Refused Malformed)) [])) ∷
+    (replicate 2 (lineWritten (put.Refused Malformed) [])) ∷
     example "card 1's value written" (valueFormat .write (value 0x0C 0x7E9 (0x1A ∷ 0xF8 ∷ []))) engineSpeed ∷
     example "the worked part written" (partFormat .write (value 0x0C 0x7E9 (0x1A ∷ 0xF8 ∷ []) ∷ [])) (0x01 ∷ engineSpeed) ∷
     example "the same read, before a byte" (partFormat .read (0x01 ∷ 0x0C ∷ 0xE9 ∷ 0x0F ∷ 0x04 ∷ 0x41 ∷ 0x0C ∷ 0x1A ∷ 0xF8 ∷ 0x07 ∷ [])) (got (value 0x0C 0x7E9 (0x1A ∷ 0xF8 ∷ []) ∷ []) (0x07 ∷ [])) ∷
     example "a value of ECU+1 4,096 and of 4,097" (valueAt (0x0D ∷ 0x80 ∷ 0x20 ∷ 0x02 ∷ 0x41 ∷ 0x0D ∷ []) 0 ∷ valueAt (0x0D ∷ 0x81 ∷ 0x20 ∷ 0x02 ∷ 0x41 ∷ 0x0D ∷ []) 0 ∷ [])
-    (result (some (valuePlace 0x0D 4096 6 6)) ∷ refused 5 ∷ []) ∷
-    example "card 1's value: PID, ECU+1, where its data starts, and the end" (valueAt engineSpeed 0) (result (some (valuePlace 0x0C 0x7E9 6 8))) ∷
+    (result (some (record { pid = 0x0D; ecu = 4096; start = 6; next = 6 })) ∷ refused 5 ∷ []) ∷
+    example "card 1's value: PID, ECU+1, where its data starts, and the end" (valueAt engineSpeed 0) (result (some (record { pid = 0x0C; ecu = 0x7E9; start = 6; next = 8 }))) ∷
     example "no value after it, and one of another PID than it says" (valueAt engineSpeed 8 ∷ valueAt (0x0D ∷ 0x00 ∷ 0x02 ∷ 0x41 ∷ 0x0C ∷ []) 0 ∷ [])
     (valueStep values.End ∷ valueStep (values.Refused Malformed) ∷ []) ∷
     example "a record of two queries" (readRecord twoParts) (got speeds []) ∷
@@ -99,7 +99,7 @@ numbers =
     example "the same script written" (writeRow queryFormat workedQueries) worked ∷
     example "six PIDs and a count of 255, written" (queryFormat .write six) sixPids ∷
     example "the same read" (script sixPids) (result (six ∷ [])) ∷
-    example "where its PIDs, its lines and the next query stand" (queryAt worked 0) (result (some (queryPlace 1 1 2 4 10))) ∷
+    example "where its PIDs, its lines and the next query stand" (queryAt worked 0) (result (some (record { pids = 1; few = 1; count = 2; list = 4; next = 10 }))) ∷
     example "no query after it" (queryAt worked 10) (queryStep queries.End) ∷
     example "no PID, and seven" (queryAt (0x00 ∷ 0x00 ∷ 0x00 ∷ []) 0 ∷ queryAt (0x07 ∷ replicate 9 0) 0 ∷ []) (replicate 2 (queryStep (queries.Refused Malformed))) ∷
     example "a count of 255 and of 256" (queriesIn (0x01 ∷ 0x0C ∷ 0x80 ∷ 0x02 ∷ 0x00 ∷ []) ∷ queriesIn (0x01 ∷ 0x0C ∷ 0x81 ∷ 0x02 ∷ 0x00 ∷ []) ∷ [])

@@ -10,9 +10,9 @@ use Rattle.wire.specs.Put.{Put}
 use Rattle.wire.specs.Text.{joined}
 use Rattle.wire.proofs.PutLaws.{put-rest, put-nil}
 use Rattle.wire.proofs.Cases.{from-no}
-use Rattle.group.specs.Group.{got, failed, malformed, readNumber, readGroup}
+use Rattle.group.specs.Group.{got, failed, malformed, readNumber}
 use Rattle.group.specs.Format.{readRow}
-use Rattle.group.proofs.GroupLaws.{group-got, read-rest, then-got}
+use Rattle.group.proofs.GroupLaws.{readGroup, group-got, read-rest, then-got}
 use Rattle.group.proofs.AtLaws.{NumberAt}
 use Rattle.value.specs.Values.{Value, valueFormat, partFormat}
 use Rattle.value.proofs.ValueLaws.{value-some}
