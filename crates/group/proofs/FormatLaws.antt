@@ -138,9 +138,6 @@ module _ {A B : Type 0} (part : A → B) (make : B → A) {f : Format B} (lf : L
     pub last-tail : (s : List ℕ) (a : A) (t : List ℕ) → (last part f make) .read s ≡ got a t → f .read s ≡ got (part a) t
     last-tail s a t q = let (b, g, e) = last-got s a t q in g ∙ ap (λ x. got x t) (sym (same b (lf .fits s b t g)) ∙ ap part e)
 
-  pub last-some : Some f → Some (last part f make)
-  last-some some s a t q = let (b, g, e) = last-got s a t q in some s b t g
-
 module _ {A : Type 0} {f : Format A} (test : A → Bool) (l : Lawful f) where
   pub having-got : (s : List ℕ) (a : A) (t : List ℕ) → (having f test) .read s ≡ got a t → (f .read s ≡ got a t) × (test a ≡ true)
   having-got s a t q =

@@ -5,9 +5,10 @@ use mathlib.Core.Bool.{Bool, true, cond}
 use mathlib.Core.List.{List, [], _∷_, _++_}
 use mathlib.Core.Option.{Option, none, some}
 use Prim.Native.Nat.{ℕ, zero, suc, _≤_}
-use lib.ListN.{length}
+use lib.Dec.{leb}
+use lib.ListN.{length, take, drop}
 use Rattle.wire.specs.Answer.{Answer, result, refused}
-use Rattle.group.specs.Group.{Read, got, failed, malformed, groupBytes, readNumber, readGroup, readBytes, andThen}
+use Rattle.group.specs.Group.{Read, got, failed, malformed, groupBytes, readNumber, andThen}
 
 pub record Format (A : Type 0) : Type 1 where
   pub Fits : A → Type 0
@@ -23,16 +24,13 @@ readByte (b ∷ s) = got b s
 abbrev pub byte : Format ℕ
 byte = record { Fits = λ b. Unit {0}; write = λ b. b ∷ []; read = readByte }
 
--- a group number, and one of at most a limit
+-- a group number
 abbrev pub anyGroup : Format ℕ
 anyGroup = record { Fits = λ n. Unit {0}; write = groupBytes; read = readNumber }
 
-abbrev pub group : ℕ → Format ℕ
-group limit = record { Fits = λ n. n ≤ limit; write = groupBytes; read = readGroup limit }
-
 -- n bytes as they stand
 abbrev pub bytesOf : ℕ → Format (List ℕ)
-bytesOf n = record { Fits = λ d. length d ≡ n; write = λ d. d; read = readBytes n }
+bytesOf n = record { Fits = λ d. length d ≡ n; write = λ d. d; read = λ s. cond (leb n (length s)) (got (take n s) (drop n s)) malformed }
 
 -- One thing after another
 
@@ -63,6 +61,10 @@ having f test = record {
 -- The same form, with its limits said in other words.
 abbrev pub limitedTo : {A : Type 0} → (A → Type 0) → Format A → Format A
 limitedTo P f = record { Fits = P; write = f .write; read = f .read }
+
+-- a group number of at most a limit
+abbrev pub group : ℕ → Format ℕ
+group limit = limitedTo (λ n. n ≤ limit) (having anyGroup (λ n. leb n limit))
 
 -- Rows
 
