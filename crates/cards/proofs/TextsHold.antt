@@ -8,7 +8,7 @@ use Rattle.hex.specs.Read.{digit, leading}
 use Rattle.query.specs.Query.{queryText}
 use Rattle.reply_lines.specs.Lines.{textLines}
 use Rattle.reply_lines.specs.Decode.{textLine, replyLines}
-use Rattle.reply_lines.specs.Answers.{lineFrom, DecodedAs}
+use Rattle.reply_lines.specs.Reader.{lineFrom}
 use Rattle.line_list.specs.Lines.{line}
 use Rattle.cards.specs.Example.{AsExpected}
 use Rattle.cards.specs.Texts.{texts}

@@ -1,11 +1,11 @@
 -- `reply_lines::ecu_of` meets its contract: an id is below 4096, so one more than it fits.
 use mathlib.Core.List.{[], _∷_}
+use mathlib.Core.Option.{Option·getD}
 use mathlib.Core.Path.{sym, ap, _∙_}
 use Prim.Native.Nat.{suc}
 use native.Mathlib.Numerals.{add-one}
 use native.Mathlib.Omega.{arith}
 use borrow.Author.Needs.{needs}
-use Rattle.reply_lines.specs.Decode.{orZero}
 use Rattle.hex.specs.Answers.{idOf}
 use Rattle.hex.proofs.ReadLaws.{number-small, below-at}
 use Rattle.reply_lines.proofs.ecu_of.Statement.{statement}
@@ -24,10 +24,10 @@ enum-told : tie.Need-enum-told
 enum-told c = search needs
 
 returns : tie.Need-returns
-returns c = add-one _ ∙ ap (λ o. suc (orZero o)) (sym (ap idOf (c .before .id .given .1)) ∙ c .before .before .before .hex-id .ensures)
+returns c = add-one _ ∙ ap (λ o. suc (Option·getD o 0)) (sym (ap idOf (c .before .id .given .1)) ∙ c .before .before .before .hex-id .ensures)
 
 returns-2 : tie.Need-returns-2
-returns-2 c = ap (λ o. suc (orZero o)) (sym (ap idOf (c .enum-told .given .1)) ∙ c .before .before .hex-id .ensures)
+returns-2 c = ap (λ o. suc (Option·getD o 0)) (sym (ap idOf (c .enum-told .given .1)) ∙ c .before .before .hex-id .ensures)
 
 pub ecu-of-spec : {M : Type 1} → statement M
 ecu-of-spec =

@@ -5,7 +5,7 @@ use native.Mathlib.Omega.{arith}
 use lib.ListN.{length}
 use borrow.Author.Needs.{needs}
 use Rattle.reply_lines.proofs.TurnLaws.{cr-inside, next-after, text-fits, from-line, from-skip, from-end, end-fits}
-use Rattle.reply_lines.specs.Answers.{lineFrom}
+use Rattle.reply_lines.specs.Reader.{lineFrom}
 use Rattle.reply_lines.proofs.next_line.Statement.{statement}
 use Rattle.reply_lines.proofs.next_line.Tie as tie
 

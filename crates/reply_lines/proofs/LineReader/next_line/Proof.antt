@@ -1,4 +1,4 @@
--- `line_reader::LineReader::next_line` meets its contract: a walk of its MIR, by hand.
+-- `reply_lines::LineReader::next_line` meets its contract: a walk of its MIR, by hand.
 -- The outer borrow is opened, which gives the struct's cell and what the struct owns. Slice and number are read out of the cell, `reply_lines::next_line` is called on them, then `past_step` on the number and the step; what it returns is stored in the cell, and the outer borrow is closed at the new record.
 -- Of the two callees the proof uses their contracts alone. What the struct owns is Copy, so the slice's part of it is had for the call (`slice-of`); the step is plain data, so what it owns is made anew of its relation.
 use mathlib.Core.Path.{_≡_, refl, ap, _∙_}
@@ -45,26 +45,25 @@ use denote.Triple.Entry.{onEntry}
 use denote.Triple.Spec.{Meets, tripleOf}
 use denote.Triple.Table.{entered, cited}
 use denote.Triple.Walked.{says, Stays, stay-ref, walkOf, goes-ref, Walks, ends-at, walked, walk-meets}
-use Rattle.reply_lines.specs.Answers.{lineStep, lineFrom}
-use Rattle.line_reader.specs.Reader.{pastStep}
-use Rattle.line_reader.specs.declared.LineReader.{LineReader}
-use Rattle.reply_lines.specs.declared.LineStep.{LineStep}
-use Rattle.line_reader.proofs.LineReader as T
-use Rattle.line_reader.proofs.LineReader.Laws as T′
-use Rattle.reply_lines.proofs.LineStep as S
-use Rattle.reply_lines.proofs.LineStep.Laws as S′
-use Rattle.line_reader.proofs.past_step as past-step
-use Rattle.line_reader.proofs.past_step.Symbol as past-step-def
-use Rattle.line_reader.proofs.past_step.Symbol.{name as #line-reader·past-step}
-use Rattle.line_reader.proofs.past_step.Met as past-step-thm
+use Rattle.reply_lines.specs.Reader.{TextPlace, textStep, lineFrom, pastStep}
+use Rattle.reply_lines.specs.declared.LineReader.{LineReader}
+use Rattle.reply_lines.specs.declared.TextStep.{TextStep}
+use Rattle.reply_lines.proofs.LineReader as T
+use Rattle.reply_lines.proofs.LineReader.Laws as T′
+use Rattle.reply_lines.proofs.TextStep as S
+use Rattle.reply_lines.proofs.TextStep.Laws as S′
+use Rattle.reply_lines.proofs.past_step as past-step
+use Rattle.reply_lines.proofs.past_step.Symbol as past-step-def
+use Rattle.reply_lines.proofs.past_step.Symbol.{name as #reply-lines·past-step}
+use Rattle.reply_lines.proofs.past_step.Met as past-step-thm
 use Rattle.reply_lines.proofs.next_line as line-from
 use Rattle.reply_lines.proofs.next_line.Symbol as line-from-def
 use Rattle.reply_lines.proofs.next_line.Symbol.{name as #reply-lines·next-line}
 use Rattle.reply_lines.proofs.next_line.Met as line-from-thm
-use Rattle.line_reader.proofs.LineReader.next_line.Key.{name as #line-reader·LineReader·next-line}
-use Rattle.line_reader.proofs.LineReader.next_line as next-line
-use Rattle.line_reader.proofs.LineReader.next_line.Statement as stated
-use Rattle.line_reader.proofs.LineReader.next_line.Code as code
+use Rattle.reply_lines.proofs.LineReader.next_line.Key.{name as #reply-lines·LineReader·next-line}
+use Rattle.reply_lines.proofs.LineReader.next_line as next-line
+use Rattle.reply_lines.proofs.LineReader.next_line.Statement as stated
+use Rattle.reply_lines.proofs.LineReader.next_line.Code as code
 
 -- 'a, and the struct's type at it
 abbrev α : Lft → NamedLft
@@ -133,25 +132,25 @@ module _ {M : Type 1} (𝓤 : URA M) (H : Heap 𝓤) (A : Atoms 𝓤) (W : Given
       qed W ((‵ (flft κ′ q′) ⊛ ‵ ftrue) ∷ ‵ OwnS ∷ []) ∵ nothing ! $ owned ! usize (Is usize) (uint-makes 𝓤 H A W w64) (h .at) _ (refl, fits) $ fjoin ! $
       move ! (2 ∷ 0 ∷ []) $ fjoin ! $ move ! (1 ∷ 0 ∷ []) $ join ! $ frame ! $ done !
 
-  abbrev found : Option (List ℕ)
+  abbrev found : Option TextPlace
   found = lineFrom (now (h .reply)) (h .at)
 
-  line-from-said : (t : LineStep) → ent 𝓤 (ensured 𝓤 H A line-from.ended (line-from.clauses 𝓤 H A at-mem run) (κ′, tt) (h .reply, (h .at, tt)) tt t) (fact 𝓤 (lineStep t ≡ found))
-  line-from-said t = exE 𝓤 _ (λ ws. snd∗ 𝓤 (sem 𝓤 H A (lasts line-from.ended (κ′, tt) (h .reply, (h .at, tt)) ws)) (fact 𝓤 (lineStep t ≡ found)))
+  line-from-said : (t : TextStep) → ent 𝓤 (ensured 𝓤 H A line-from.ended (line-from.clauses 𝓤 H A at-mem run) (κ′, tt) (h .reply, (h .at, tt)) tt t) (fact 𝓤 (textStep t ≡ found))
+  line-from-said t = exE 𝓤 _ (λ ws. snd∗ 𝓤 (sem 𝓤 H A (lasts line-from.ended (κ′, tt) (h .reply, (h .at, tt)) ws)) (fact 𝓤 (textStep t ≡ found)))
 
   -- the call of `past_step`, at the step t with the machine value u
-  abbrev to-past-step : LineStep → Val → PastStep 𝓤 H A at-mem run .Ghost
+  abbrev to-past-step : TextStep → Val → PastStep 𝓤 H A at-mem run .Ghost
   to-past-step t u = ((tt, tt, tt, (h .at, (t, tt)), (vint w64 (h .at) ∷ [], (u ∷ [], tt))), tt)
 
-  goes-past-step : (t : LineStep) (u : Val) → h .at < 2 ^ 64 → ent 𝓤 (sem 𝓤 H A (S.the-row .own t (u ∷ []))) (PastStep 𝓤 H A at-mem run .pre (to-past-step t u))
+  goes-past-step : (t : TextStep) (u : Val) → h .at < 2 ^ 64 → ent 𝓤 (sem 𝓤 H A (S.the-row .own t (u ∷ []))) (PastStep 𝓤 H A at-mem run .pre (to-past-step t u))
   goes-past-step t u fits =
       qed W (‵ (S.the-row .own t (u ∷ [])) ∷ []) ∵ nothing ! $ move ! (1 ∷ 0 ∷ []) $ fjoin ! $
       owned ! usize (Is usize) (uint-makes 𝓤 H A W w64) (h .at) _ (refl, fits) $ fjoin ! $ nothing ! $ join ! $ frame ! $ done !
 
-  past-step-said : (t : LineStep) (r : ℕ) → ent 𝓤 (ensured 𝓤 H A past-step.ended (past-step.clauses 𝓤 H A at-mem run) tt (h .at, (t, tt)) tt r) (fact 𝓤 (r ≡ pastStep (h .at) (lineStep t)))
-  past-step-said t r = exE 𝓤 _ (λ ws. snd∗ 𝓤 (sem 𝓤 H A (lasts past-step.ended tt (h .at, (t, tt)) ws)) (fact 𝓤 (r ≡ pastStep (h .at) (lineStep t))))
+  past-step-said : (t : TextStep) (r : ℕ) → ent 𝓤 (ensured 𝓤 H A past-step.ended (past-step.clauses 𝓤 H A at-mem run) tt (h .at, (t, tt)) tt r) (fact 𝓤 (r ≡ pastStep (h .at) (textStep t)))
+  past-step-said t r = exE 𝓤 _ (λ ws. snd∗ 𝓤 (sem 𝓤 H A (lasts past-step.ended tt (h .at, (t, tt)) ws)) (fact 𝓤 (r ≡ pastStep (h .at) (textStep t))))
 
-  exits : (r : ℕ) (t : LineStep) (u : Val) → Is S.the-row t (u ∷ []) → lineStep t ≡ found → r ≡ pastStep (h .at) (lineStep t)
+  exits : (r : ℕ) (t : TextStep) (u : Val) → Is S.the-row t (u ∷ []) → textStep t ≡ found → r ≡ pastStep (h .at) (textStep t)
       → ent 𝓤 (⋆ 𝓤 H A (‵ (fobs γ (B κ′ .coded .code (h′ r))) ∷ ‵ (fbor κ (Body (mem (B κ′)) b o γ)) ∷ ‵ (flft κ q) ∷ (‵ (flft κ′ q′) ⊛ ‵ ftrue) ∷ [])) (Post u)
   exits r t u is e₁ e₂ =
       qed W (‵ (fobs γ (B κ′ .coded .code (h′ r))) ∷ ‵ (fbor κ (Body (mem (B κ′)) b o γ)) ∷ ‵ (flft κ q) ∷ (‵ (flft κ′ q′) ⊛ ‵ ftrue) ∷ []) ∵
@@ -163,7 +162,7 @@ module _ {M : Type 1} (𝓤 : URA M) (H : Heap 𝓤) (A : Atoms 𝓤) (W : Given
   facts : Is (B κ′) h (T′.lowered h ∷ []) → Holds (hasTy (T′.mir (named 1)) (T′.lowered h)) × WT (T′.lowered h)
   facts was = LL.lawful (T.the-type (α κ′)) (T′.the-laws (α κ′)) 𝓤 H A W .typed h _ was .0
 
-  module _ (C : Calls 𝓤 H) (Λ : Loops 𝓤 H) (fm : FmC 𝓤 H (W .laws) C) (known-past-step : Triple 𝓤 (C #line-reader·past-step) (PastStep 𝓤 H A at-mem run)) (known-line-from : Triple 𝓤 (C #reply-lines·next-line) (LineFrom 𝓤 H A at-mem run)) where
+  module _ (C : Calls 𝓤 H) (Λ : Loops 𝓤 H) (fm : FmC 𝓤 H (W .laws) C) (known-past-step : Triple 𝓤 (C #reply-lines·past-step) (PastStep 𝓤 H A at-mem run)) (known-line-from : Triple 𝓤 (C #reply-lines·next-line) (LineFrom 𝓤 H A at-mem run)) where
     walk : ent 𝓤 (onEntry 𝓤 H A next-line.signature (κ, (κ′, tt)) (q, (q′, tt)) x at) (WpFn 𝓤 H C Λ code.function (vptr b o ∷ []) Post)
     walk =
         qed W ((‵ (flft κ q) ⊛ ‵ (flft κ′ q′) ⊛ ‵ ftrue) ∷ ‵ (owns (MutRef (named 0) κ (B κ′) ∷ []) x at) ∷ []) ∵ enter ! C Λ code.function (vptr b o ∷ []) _ $
@@ -181,15 +180,15 @@ module _ {M : Type 1} (𝓤 : URA M) (H : Heap 𝓤) (A : Atoms 𝓤) (W : Given
         move ! (6 ∷ 1 ∷ []) $ use2 W (raw (LineFrom 𝓤 H A at-mem run .pre to-line-from)) (goes-line-from (facts was .1 .1 .0 .fits)) $
         -- [what the call asks; what it owns; the struct's cell; the open borrow; obs; auth; true; _5; …; _4; …; _3; …; _2; …]
         calls-at ! fm (LineFrom 𝓤 H A at-mem run) known-line-from to-line-from (and-then ! (load ! (from ! (stop !)) (look ! 13 refl)) (and-then ! (load ! (from ! (stop !)) (look ! 11 refl)) (no-more !))) (λ u.
-        use1 W (later (some (λ (t : LineStep). ((‵ (flft κ′ q′) ⊛ ‵ ftrue) ⊛ ‵ (S.the-row .own t (u ∷ []))) ⊛ raw (ensured 𝓤 H A line-from.ended (line-from.clauses 𝓤 H A at-mem run) (κ′, tt) (h .reply, (h .at, tt)) tt t)))) (id⊢ 𝓤 _) $ await ! tt $ pick ! (λ t.
-        split ! $ move ! (1 ∷ []) $ use1 W (raw (fact 𝓤 (lineStep t ≡ found))) (line-from-said t) $ heard ! (lineStep t ≡ found) (λ e₁. split ! $ move ! (1 ∷ []) $
+        use1 W (later (some (λ (t : TextStep). ((‵ (flft κ′ q′) ⊛ ‵ ftrue) ⊛ ‵ (S.the-row .own t (u ∷ []))) ⊛ raw (ensured 𝓤 H A line-from.ended (line-from.clauses 𝓤 H A at-mem run) (κ′, tt) (h .reply, (h .at, tt)) tt t)))) (id⊢ 𝓤 _) $ await ! tt $ pick ! (λ t.
+        split ! $ move ! (1 ∷ []) $ use1 W (raw (fact 𝓤 (textStep t ≡ found))) (line-from-said t) $ heard ! (textStep t ≡ found) (λ e₁. split ! $ move ! (1 ∷ []) $
         -- [the step; 'a's token; what it owns; the struct's cell; the open borrow; obs; auth; true; _5; …; _4; …; _3; …; _2; …; _1; …; _0; …]
         peeks ! S.the-row (Is S.the-row) (shows 𝓤 H A S.the-row) t (u ∷ []) (λ is.
         land ! (from ! (stop !)) (init ! 10 refl (EL.lawful S.the-type S′.the-laws 𝓤 H A W tt .typed t _ is .0)) $
         use1 W (raw (PastStep 𝓤 H A at-mem run .pre (to-past-step t u))) (goes-past-step t u (facts was .1 .1 .0 .fits)) $
         calls-at ! fm (PastStep 𝓤 H A at-mem run) known-past-step (to-past-step t u) (and-then ! (load ! (from ! (stop !)) (look ! 12 refl)) (and-then ! (load ! (from ! (stop !)) (look ! 10 refl)) (no-more !))) (λ u₂.
         use1 W (later (some (λ (r : ℕ). (‵ ftrue ⊛ ‵ (usize .own r (u₂ ∷ []))) ⊛ raw (ensured 𝓤 H A past-step.ended (past-step.clauses 𝓤 H A at-mem run) tt (h .at, (t, tt)) tt r)))) (id⊢ 𝓤 _) $ await ! tt $ pick ! (λ r.
-        split ! $ move ! (1 ∷ []) $ use1 W (raw (fact 𝓤 (r ≡ pastStep (h .at) (lineStep t)))) (past-step-said t r) $ heard ! (r ≡ pastStep (h .at) (lineStep t)) (λ e₂. split ! $ drop ! $
+        split ! $ move ! (1 ∷ []) $ use1 W (raw (fact 𝓤 (r ≡ pastStep (h .at) (textStep t)))) (past-step-said t r) $ heard ! (r ≡ pastStep (h .at) (textStep t)) (λ e₂. split ! $ drop ! $
         -- [the number; 'a's token; what it owns; the struct's cell; the open borrow; obs; auth; true; _5; …; _4; …; _3; …; _2; …; _1; …; _0; …]
         peeks ! usize (Is usize) (shows 𝓤 H A usize) r (u₂ ∷ []) (λ is₂.
         land ! (from ! (stop !)) (init ! 8 refl (uint-lawful 𝓤 H A W w64 .typed r _ is₂ .0)) $ rewrite ! 8 (λ (w : Val). ‵ (fat fullShare (tyInt w64) l₅ 0 w)) (ap only (is₂ .0)) refl $
@@ -205,13 +204,13 @@ module _ {M : Type 1} (𝓤 : URA M) (H : Heap 𝓤) (A : Atoms 𝓤) (W : Given
         keep ! (0 ∷ 1 ∷ 2 ∷ 3 ∷ []) $ by ! (exits r t u is e₁ e₂)))))))))))))))))
 
 module _ {M : Type 1} (𝓤 : URA M) (H : Heap 𝓤) (A : Atoms 𝓤) (W : Given 𝓤 H A) (at-mem : Memory → SProp 𝓤) (run : Routine → Fun 𝓤) where
-  next-line-walks : (C : Calls 𝓤 H) (Λ : Loops 𝓤 H) → FmC 𝓤 H (W .laws) C → Triple 𝓤 (C #line-reader·past-step) (PastStep 𝓤 H A at-mem run) → Triple 𝓤 (C #reply-lines·next-line) (LineFrom 𝓤 H A at-mem run)
+  next-line-walks : (C : Calls 𝓤 H) (Λ : Loops 𝓤 H) → FmC 𝓤 H (W .laws) C → Triple 𝓤 (C #reply-lines·past-step) (PastStep 𝓤 H A at-mem run) → Triple 𝓤 (C #reply-lines·next-line) (LineFrom 𝓤 H A at-mem run)
       → Walks 𝓤 H A next-line.ended stayed (WpFn 𝓤 H C Λ code.function) (next-line.clauses 𝓤 H A at-mem run)
   next-line-walks C Λ fm known-past-step known-line-from = walked 𝓤 H A next-line.ended stayed (next-line.clauses 𝓤 H A at-mem run) (WpFn 𝓤 H C Λ code.function) (λ κs. (ptr-vals, tt)) (λ κs. (mut-tells (named 0) (κs .0) (B (κs .1 .0)), tt))
       (λ κs qs bounds a _ are. via 𝓤 _ (fst∗ 𝓤 _ (emp 𝓤)) (walk 𝓤 H A W at-mem run (κs .0) (κs .1 .0) (qs .0) (qs .1 .0) bounds (a .0 .ptr .0) (a .0 .ptr .1) (a .0 .name) (a .0 .now) C Λ fm known-past-step known-line-from))
 
 next-line-meets : {M : Type 1} (𝓤 : URA M) (H : Heap 𝓤) (A : Atoms 𝓤) (W : Given 𝓤 H A) (at-mem : Memory → SProp 𝓤) (run : Routine → Fun 𝓤) (𝓣 : Tables 𝓤 H)
-    → Triple 𝓤 (𝓣 .C #line-reader·past-step) (PastStep 𝓤 H A at-mem run) → Triple 𝓤 (𝓣 .C #reply-lines·next-line) (LineFrom 𝓤 H A at-mem run)
+    → Triple 𝓤 (𝓣 .C #reply-lines·past-step) (PastStep 𝓤 H A at-mem run) → Triple 𝓤 (𝓣 .C #reply-lines·next-line) (LineFrom 𝓤 H A at-mem run)
     → Meets 𝓤 H A next-line.signature (WpFn 𝓤 H (𝓣 .C) (𝓣 .Λ) code.function) (next-line.spec 𝓤 H A at-mem run)
 next-line-meets 𝓤 H A W at-mem run 𝓣 known-past-step known-line-from = walk-meets 𝓤 H A next-line.ended stayed W (goes-ref 𝓤 H A W 2 0 tt behind, tt) (next-line.clauses 𝓤 H A at-mem run) (WpFn 𝓤 H (𝓣 .C) (𝓣 .Λ) code.function) (WpFn-mono 𝓤 H (W .laws) 𝓣 code.function)
     (next-line-walks 𝓤 H A W at-mem run (𝓣 .C) (𝓣 .Λ) (fmOf 𝓤 H (W .laws) 𝓣) known-past-step known-line-from)
@@ -220,7 +219,7 @@ pub next-line-spec : {M : Type 1} → stated.statement M
 unfolding code.routine tablesOf
 next-line-spec 𝓤 H 𝓜 𝓖 𝓡 =
     entered 𝓤 H (tripleOf 𝓤 H (𝓖 .A) next-line.signature (next-line.spec 𝓤 H (𝓖 .A) (𝓜 .mem) (𝓡 .run)))
-    (tables 𝓤 H 𝓜 𝓡 code.env .C) (tables 𝓤 H 𝓜 𝓡 code.env .Λ) #line-reader·LineReader·next-line code.function (code.unfolded 𝓤 H 𝓜 𝓡)
+    (tables 𝓤 H 𝓜 𝓡 code.env .C) (tables 𝓤 H 𝓜 𝓡 code.env .Λ) #reply-lines·LineReader·next-line code.function (code.unfolded 𝓤 H 𝓜 𝓡)
     (next-line-meets 𝓤 H (𝓖 .A) (givenOf 𝓤 H 𝓜 𝓖) (𝓜 .mem) (𝓡 .run) (tablesOf 𝓤 H 𝓜 (tables 𝓤 H 𝓜 𝓡 code.env))
-    (cited 𝓤 H (PastStep 𝓤 H (𝓖 .A) (𝓜 .mem) (𝓡 .run)) 𝓜 𝓡 code.env #line-reader·past-step past-step-def.routine code.calls-line-reader·past-step (past-step-thm.met 𝓤 H 𝓜 𝓖 𝓡))
+    (cited 𝓤 H (PastStep 𝓤 H (𝓖 .A) (𝓜 .mem) (𝓡 .run)) 𝓜 𝓡 code.env #reply-lines·past-step past-step-def.routine code.calls-reply-lines·past-step (past-step-thm.met 𝓤 H 𝓜 𝓖 𝓡))
     (cited 𝓤 H (LineFrom 𝓤 H (𝓖 .A) (𝓜 .mem) (𝓡 .run)) 𝓜 𝓡 code.env #reply-lines·next-line line-from-def.routine code.calls-reply-lines·next-line (line-from-thm.met 𝓤 H 𝓜 𝓖 𝓡)))

@@ -1,10 +1,10 @@
--- `line_reader::part` meets its contract.
+-- `reply_lines::part` meets its contract.
 use mathlib.Core.Path.{sym}
 use Prim.Native.Nat.{_-_}
 use borrow.Author.Needs.{needs}
-use Rattle.line_reader.proofs.PartLaws.{part-past, part-none, part-rest}
-use Rattle.line_reader.proofs.part.Statement.{statement}
-use Rattle.line_reader.proofs.part.Tie as tie
+use Rattle.reply_lines.proofs.PartLaws.{part-past, part-none, part-rest}
+use Rattle.reply_lines.proofs.part.Statement.{statement}
+use Rattle.reply_lines.proofs.part.Tie as tie
 
 slice-aggregate-result : tie.Need-slice-aggregate-result
 slice-aggregate-result c = search needs
