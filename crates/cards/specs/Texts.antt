@@ -7,10 +7,9 @@ use lib.ListN.{replicate}
 use Rattle.wire.specs.Text.{ascii, same, begins, isSpace, raised, has, high}
 use Rattle.hex.specs.Digits.{hexByte, hexId, hexBytes}
 use Rattle.hex.specs.Read.{digit, hexNumber, pairBytes}
-use Rattle.hex.specs.Answers.{digitOf, byteOf, idOf}
+use Rattle.hex.specs.Answers.{digitOf, hexOf}
 use Rattle.hex.specs.declared.HexDigit.the-variants as digits
-use Rattle.hex.specs.declared.HexByte.the-variants as pair
-use Rattle.hex.specs.declared.HexId.the-variants as id
+use Rattle.hex.specs.declared.HexNumber.the-variants as hex
 use Rattle.line_list.specs.Lines.{line}
 use Rattle.query.specs.Query.{countOf, queryText}
 use Rattle.query.specs.declared.EcuCount.the-variants.{Any, Given}
@@ -35,7 +34,7 @@ texts =
     example "digits" (map digit (ascii "0Af+G")) (digitOf (digits.Digit 0) ∷ digitOf (digits.Digit 10) ∷ digitOf (digits.Digit 15) ∷ digitOf digits.Bad ∷ none ∷ []) ∷
     example "ids" (map (λ (s : List ℕ). hexNumber s) (ascii "7e8" ∷ ascii "+12" ∷ ascii "7G8" ∷ ascii "++1" ∷ [])) (some 0x7E8 ∷ some 0x012 ∷ none ∷ none ∷ []) ∷
     example "an id and a pair, good and bad" (hexNumber (ascii "7E8") ∷ hexNumber (ascii "8 0") ∷ hexNumber (ascii "+c") ∷ hexNumber (ascii "c+") ∷ [])
-    (idOf (id.Id 0x7E8) ∷ idOf id.Bad ∷ byteOf (pair.Byte 0x0C) ∷ byteOf pair.Bad ∷ []) ∷
+    (map hexOf (hex.Number 0x7E8 ∷ hex.Bad ∷ hex.Number 0x0C ∷ hex.Bad ∷ [])) ∷
     example "a bad pair and an odd last digit are skipped" (pairBytes (ascii "1g2A3")) (0x2A ∷ []) ∷
     example "digits written" (hexId 0x7E8 ++ (hexId 0x00C ++ (hexByte 0x0C ++ hexBytes (0x41 ∷ 0xAF ∷ [])))) (ascii "7E800C0C41AF") ∷
     example "a query's text with no count, 5, 16 and 255" (map (queryText (0x0C ∷ [])) (map countOf (Any ∷ Given 5 ∷ Given 16 ∷ Given 255 ∷ [])))

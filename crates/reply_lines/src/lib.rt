@@ -1,6 +1,5 @@
 // The lines of a reply (parse_lines and decode_hex of the Rust's client_session.rs).
-use hex::HexByte;
-use hex::HexId;
+use hex::HexNumber;
 ghost use mathlib.Core.Path.{_≡_};
 ghost use mathlib.Core.List.{[], _∷_};
 ghost use mathlib.Core.Option.{Option·getD};
@@ -234,10 +233,10 @@ fn next_char(text: &[u8], at: usize) -> usize
 fn put_pair(out: &mut [u8], at: usize, a: u8, b: u8) -> usize
     ensures { λ r. ⌜ Put (now (out .entry)) at (kept (hexNumber (a ∷ b ∷ []))) r (now (out .exit)) ⌝ }
 {
-    let HexByte::Byte(byte) = hex::hex_pair(a, b) else {
+    let HexNumber::Number(byte) = hex::hex_pair(a, b) else {
         return at;
     };
-    wire::put_byte(out, at, byte)
+    wire::put_byte(out, at, byte as u8)
 }
 
 // The bytes of the pairs of a text from position at on, spaces skipped, stored at the front of out.
@@ -290,8 +289,8 @@ fn ecu_of(a: u8, b: u8, c: u8) -> u16
     ensures { λ r. ⌜ r ≡ suc (Option·getD (hexNumber (a ∷ b ∷ c ∷ [])) 0) ⌝ }
 {
     match hex::hex_id(a, b, c) {
-        HexId::Id(id) => id + 1,
-        HexId::Bad => 1,
+        HexNumber::Number(id) => id + 1,
+        HexNumber::Bad => 1,
     }
 }
 

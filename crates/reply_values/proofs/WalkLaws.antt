@@ -46,8 +46,7 @@ walked-cons lengths e p s =
 
 -- a PID's data ends with its line
 pub span-within : (o : Option ℕ) (left : ℕ) → spanOf o left ≤ left
-span-within none left = omega arith
-span-within (some n) left = omega arith
+span-within o left = omega arith
 
 -- the values from position i on: one with n data bytes, and the end
 module _ (lengths : List ℕ) (e : ℕ) (s : List ℕ) (i : ℕ) where
