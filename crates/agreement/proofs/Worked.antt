@@ -5,7 +5,7 @@ use Rattle.wire.specs.Text.{ascii}
 use Rattle.hex.specs.Digits.{hexDigit}
 use Rattle.group.specs.Group.{groupBytes}
 use Rattle.line_list.specs.Lines.{line}
-use Rattle.value.specs.Values.{valueBytes, valuesBytes, readRecord}
+use Rattle.value.specs.Values.{valueFormat, valuesBytes, readRecord}
 use Rattle.pid.specs.J1979.{j1979}
 use Rattle.query.specs.Query.{queryText}
 use Rattle.reply.specs.Reply.{lineText, replyText}
@@ -15,11 +15,11 @@ use Rattle.agreement.specs.Demand.{commands, fitting, partsIn, SameFirst
 
 two-pids : valuesBytes (given (line 0 (0x41 ∷ 0x0C ∷ 0x1A ∷ 0xF8 ∷ 0x0D ∷ 0x20 ∷ []) ∷ [])) ≡
     0x0C ∷ 0xE9 ∷ 0x0F ∷ 0x04 ∷ 0x41 ∷ 0x0C ∷ 0x1A ∷ 0xF8 ∷ 0x0D ∷ 0xE9 ∷ 0x0F ∷ 0x03 ∷ 0x41 ∷ 0x0D ∷ 0x20 ∷ []
-unfolding valueBytes groupBytes j1979
+unfolding valueFormat groupBytes j1979
 two-pids = refl
 
 outside-table : valuesBytes (given (line 0x7EA (0x41 ∷ 0xE0 ∷ 0x0D ∷ 0x0C ∷ []) ∷ line 0 (0x42 ∷ 0x0D ∷ 0x20 ∷ []) ∷ [])) ≡ 0xE0 ∷ 0xEA ∷ 0x0F ∷ 0x04 ∷ 0x41 ∷ 0xE0 ∷ 0x0D ∷ 0x0C ∷ []
-unfolding valueBytes groupBytes j1979
+unfolding valueFormat groupBytes j1979
 outside-table = refl
 
 -- two queries of the worked script: their commands, less spaces; parts of nine bytes each, so that two fit in 18 and one in 17
@@ -31,11 +31,11 @@ unfolding queryText hexDigit
 own-texts = refl
 
 two-fit : fitting 18 twice ≡ 2
-unfolding replyText lineText hexDigit valueBytes groupBytes j1979
+unfolding replyText lineText hexDigit valueFormat groupBytes j1979
 two-fit = refl
 
 one-fits : fitting 17 twice ≡ 1
-unfolding replyText lineText hexDigit valueBytes groupBytes j1979
+unfolding replyText lineText hexDigit valueFormat groupBytes j1979
 one-fits = refl
 
 -- a record of two parts, and one that has the first of them alone

@@ -16,19 +16,21 @@ use Rattle.wire.proofs.Cases.{by-test, from-no}
 use Rattle.wire.proofs.PutLaws.{put-then, put-whole}
 use Rattle.group.specs.Group.{groupBytes}
 use Rattle.client_session.specs.Session.{client}
-use Rattle.script.specs.Script.{Query}
+use Rattle.script.specs.Script.{Query, queryFormat}
 use Rattle.script.specs.Answers.{queryStep, queryAt}
 use Rattle.script.specs.declared.QueryStep.{QueryStep}
 use Rattle.script.specs.declared.QueryStep.the-variants as step
 use Rattle.script.proofs.QueryStep.{the-type}
 use Rattle.script.proofs.StepLaws.{QueryHere, step-end, step-none}
-use Rattle.script.proofs.ScriptLaws.{Ahead, ahead-start, ahead-end, ahead-none, ahead-query}
+use Rattle.script.proofs.ScriptLaws.{ahead-start}
+use Rattle.script.proofs.QueryLaws.{query-lawful, query-some}
+use Rattle.group.proofs.WalkLaws.{Ahead, ahead-end, ahead-none, ahead-thing}
 use Rattle.bench.specs.declared.Bench as code
 use Rattle.bench.specs.declared.BenchRun.{BenchRun}
 use Rattle.bench.specs.declared.RunAnswer.the-variants.{Complete, Refused}
 use Rattle.bench.specs.declared.PartStep.{PartStep}
 use Rattle.bench.specs.Run.{Part, startSays, asking, finished, part, Run, after, sizeOf, standing, asked, runAnswer, Recorded, recorded, lent}
-use Rattle.bench.specs.Steps.{benchOf, partAnswer, PartDoes, IsScript, queriesOf, queriesIn, added, lentFrom}
+use Rattle.bench.specs.Steps.{benchOf, partAnswer, PartDoes, IsScript, orNone, queriesOf, added, lentFrom}
 
 -- what the host sees is its answer, its length and the buffer
 recorded-same : {x y : Recorded} → x .answer ≡ y .answer → x .written ≡ y .written → x .out ≡ y .out → x ≡ y
@@ -109,13 +111,13 @@ part-stands at buffer (result bytes) handed others inside e =
 -- With the script read up to a position, and the record written up to a position: the queries that are ahead make the rest of the whole run.
 pub record Left (whole : Recorded) (s lengths : List ℕ) (b : code.Bench) (place at : ℕ) (buffer store : List ℕ) : Type 0 where
   pub queries : List Query
-  pub ahead : Ahead s place queries
+  pub ahead : Ahead queryFormat s place queries
   pub inside : at ≤ length buffer
   pub rest : whole ≡ lentFrom at (asked (length buffer - at) (benchOf b store lengths) queries) buffer
 
 -- at the start all of it is left
 pub left-start : (s lengths : List ℕ) (b : code.Bench) (place at : ℕ) (buffer store : List ℕ) → IsScript s → place ≡ 0 → at ≡ 0 →
-    Left (lent (asked (length buffer) (benchOf b store lengths) (queriesIn s)) buffer) s lengths b place at buffer store
+    Left (lent (asked (length buffer) (benchOf b store lengths) (queriesOf s)) buffer) s lengths b place at buffer store
 left-start s lengths b place at buffer store (qs, h) p z =
     let room : length buffer ≡ length buffer - at = omega arith in
     record {
@@ -123,8 +125,8 @@ left-start s lengths b place at buffer store (qs, h) p z =
       ahead = ahead-start s place qs h p;
       inside = omega arith;
       rest =
-          ap (λ n. lent (asked n (benchOf b store lengths) (queriesIn s)) buffer) room ∙
-          ap (λ a. lent (asked (length buffer - at) (benchOf b store lengths) (queriesOf a)) buffer) h ∙
+          ap (λ n. lent (asked n (benchOf b store lengths) (queriesOf s)) buffer) room ∙
+          ap (λ a. lent (asked (length buffer - at) (benchOf b store lengths) (orNone a)) buffer) h ∙
           recorded-same refl (omega arith) (ap (λ n. sets buffer n (joined (asked (length buffer - at) (benchOf b store lengths) qs .parts))) (sym z));
     }
 
@@ -132,7 +134,7 @@ module _ {whole : Recorded} {s lengths : List ℕ} {b : code.Bench} {place at : 
   -- at the end nothing is left
   left-end : length s ≤ place → recorded (record { answer = Complete; written = at }) buffer ≡ whole
   left-end h =
-      let none = ahead-end s place (l .queries) (l .ahead) h in
+      let none = ahead-end queryFormat s place (l .queries) (l .ahead) h in
       sym (l .rest ∙ ap (λ qs. lentFrom at (asked (length buffer - at) (benchOf b store lengths) qs) buffer) none ∙ recorded-same refl (omega arith) refl)
 
   -- and before the end a step finds a query
@@ -140,7 +142,7 @@ module _ {whole : Recorded} {s lengths : List ℕ} {b : code.Bench} {place at : 
       recorded (record { answer = Complete; written = at }) buffer ≡ whole
   left-done (step.Query pids few count list next) e k = absurd (miss (1 ∷ 2 ∷ []) 0 tt k)
   left-done step.End e k = left-end (step-end s place e refl)
-  left-done step.Malformed e k = let none = step-none s place e refl in absurd (ahead-none s place (l .queries) (l .ahead) (none .0) (none .1))
+  left-done (step.Refused n) e k = let none = step-none s place e refl in absurd (ahead-none queryFormat s place (l .queries) (l .ahead) (none .0) (none .1))
 
   -- a query has been asked, and r is what became of its part
   module _ (q : Query) (pids few count list next : ℕ) (w : QueryHere s place q pids few count list next) (p : PartStep) (values store₁ : List ℕ)
@@ -184,13 +186,13 @@ module _ {whole : Recorded} {s lengths : List ℕ} {b : code.Bench} {place at : 
     -- a number ends the run
     pub left-refused : (n : ℕ) → r .answer ≡ Refused n → recorded r buffer₁ ≡ whole
     left-refused n k =
-        let (qs, f, _) = ahead-query s place (l .queries) (l .ahead) q pids few count list next w in
+        let (qs, f, _) = ahead-thing queryFormat s place (l .queries) (l .ahead) query-lawful query-some (w .here) in
         e ∙ sym (one-more qs f ∙ number-last room at buffer answer (says .handed) (others qs) n (sym (ap (λ (x : Recorded). x .answer) e) ∙ ap runAnswer k))
 
     -- the part stands
     pub left-next : r .answer ≡ Complete → Left whole s lengths (p .bench) next (r .written) buffer₁ store₁
     left-next k =
-        let (qs, f, g) = ahead-query s place (l .queries) (l .ahead) q pids few count list next w in
+        let (qs, f, g) = ahead-thing queryFormat s place (l .queries) (l .ahead) query-lawful query-some (w .here) in
         let t = part-stands at buffer answer (says .handed) (others qs) (l .inside) (sym (ap (λ (x : Recorded). x .answer) e) ∙ ap runAnswer k) in
         let end = ap (λ (x : Recorded). x .written) e in
         let out = ap (λ (x : Recorded). x .out) e in

@@ -11,7 +11,7 @@ use Rattle.bench.specs.declared.RunAnswer.the-variants.{Refused}
 use Rattle.bench.specs.declared.BenchRun.{BenchRun}
 use Rattle.bench.specs.declared.Turn as code-turn
 use Rattle.bench.specs.Run.{Run, asked, begun, initialised, runSays, recorded, lent}
-use Rattle.bench.specs.Steps.{benchOf, pieceNumber, Comes, IsScript, queriesIn}
+use Rattle.bench.specs.Steps.{benchOf, pieceNumber, Comes, IsScript, queriesOf}
 use Rattle.bench.proofs.AskLaws.{number-refused, no-number}
 
 module _ (repeat : Bool) (lengths s buffer : List ℕ) where
@@ -25,7 +25,7 @@ module _ (repeat : Bool) (lengths s buffer : List ℕ) where
 
   -- it gets none, and the initialisation comes to a turn
   module _ (is : IsScript s) (t : code-turn.Turn) (reply store : List ℕ) (does : Comes (initialised repeat lengths) t reply store lengths) where
-    begins : says ≡ begun (length buffer) (initialised repeat lengths) (pieceAnswer (t .answer)) (queriesIn s)
+    begins : says ≡ begun (length buffer) (initialised repeat lengths) (pieceAnswer (t .answer)) (queriesOf s)
     unfolding runSays
     begins = rw (is .1, does .answer)
 
@@ -34,5 +34,5 @@ module _ (repeat : Bool) (lengths s buffer : List ℕ) where
     begin-refused n r number some k = rw (k, begins, number-refused (pieceAnswer (t .answer)) n number some)
 
     pub begin-asks : (r : BenchRun) (left : List ℕ) → pieceNumber (t .answer) ≡ 0 →
-        recorded r left ≡ lent (asked (length buffer) (benchOf (t .bench) store lengths) (queriesIn s)) buffer → recorded r left ≡ lent says buffer
+        recorded r left ≡ lent (asked (length buffer) (benchOf (t .bench) store lengths) (queriesOf s)) buffer → recorded r left ≡ lent says buffer
     begin-asks r left none e = e ∙ rw (begins, no-number (t .answer) none .1, does .bench)

@@ -11,7 +11,7 @@ use Rattle.pid.specs.J1979.{j1979}
 use Rattle.pid.specs.Lengths.{mode01Lengths}
 use Rattle.group.specs.Group.{groupBytes}
 use Rattle.line_list.specs.Lines.{lineList}
-use Rattle.value.specs.Values.{valueBytes}
+use Rattle.value.specs.Values.{valueFormat}
 use Rattle.at_command.specs.Dialect.{atKind}
 use Rattle.reply.specs.Reply.{lineText, replyText}
 use Rattle.server_session.specs.Bytes.{canonical, byteNumber, byteTaken, byteSays, bytesSay}
@@ -45,5 +45,5 @@ examples :
     (runSays true [] 9 (worked ++ worked) ≡ record { answer = refused 6; parts = workedPart ∷ []; handed = ascii "010C1" ∷ ascii "010C1" ∷ [] }) ×
     (runSays true [] 2 (noData ++ noData) ≡ record { answer = result tt; parts = (0x00 ∷ []) ∷ (0x00 ∷ []) ∷ []; handed = ascii "010C" ∷ ascii "010C" ∷ [] }) ×
     (runSays true [] 9 (0x00 ∷ worked) ≡ record { answer = refused 5; parts = []; handed = [] })
-unfolding has high isSpace raised hexDigit digit leading j1979 mode01Lengths groupBytes lineList valueBytes atKind lineText replyText canonical byteNumber byteTaken byteSays bytesSay answerSays replySays queryText textLines textLine replyLines walked answerOrder learnLength initSays queryPidSays queryPidsSays replyTakes pieceSays finishSays script exchanged pieces delivered initialised part runSays
+unfolding has high isSpace raised hexDigit digit leading j1979 mode01Lengths groupBytes lineList valueFormat atKind lineText replyText canonical byteNumber byteTaken byteSays bytesSay answerSays replySays queryText textLines textLine replyLines walked answerOrder learnLength initSays queryPidSays queryPidsSays replyTakes pieceSays finishSays script exchanged pieces delivered initialised part runSays
 examples = (refl, refl, refl, refl)

@@ -138,12 +138,12 @@ pub record PartDoes (p : Part) (r : PartStep) (values store lengths : List ℕ) 
 abbrev pub IsScript : List ℕ → Type 0
 IsScript s = (qs : List Query) × (script s ≡ result qs)
 
-abbrev pub queriesOf : Answer (List Query) → List Query
-queriesOf (result qs) = qs
-queriesOf (refused n) = []
+abbrev pub orNone : Answer (List Query) → List Query
+orNone (result qs) = qs
+orNone (refused n) = []
 
-abbrev pub queriesIn : List ℕ → List Query
-queriesIn s = queriesOf (script s)
+abbrev pub queriesOf : List ℕ → List Query
+queriesOf s = orNone (script s)
 
 -- a query's part in what is left of the record's room, as if no other followed
 abbrev pub added : ℕ → Answer (List ℕ) → Run

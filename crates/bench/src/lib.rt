@@ -16,7 +16,7 @@ ghost use Rattle.wire.specs.Put.{Put};
 ghost use Rattle.group.specs.Group.{groupBytes};
 ghost use Rattle.bench.specs.declared.RunAnswer.the-variants.{Refused};
 ghost use Rattle.bench.specs.Run.{replyRoom, asked, runSays, recorded, lent};
-ghost use Rattle.bench.specs.Steps.{benchOf, partAnswer, added, lentFrom, IsScript, queriesIn};
+ghost use Rattle.bench.specs.Steps.{benchOf, partAnswer, added, lentFrom, IsScript, queriesOf};
 
 // How a run ended.
 pub enum RunAnswer {
@@ -109,7 +109,7 @@ fn ask_all(
     store: &mut [u8],
 ) -> BenchRun
     requires { ⌜ IsScript (now script) × (length (now work) ≡ replyRoom) ⌝ }
-    ensures { λ r. ⌜ recorded r (now (buffer .exit)) ≡ lent (asked (length (now (buffer .entry))) (benchOf bench (now (store .entry)) (now (lengths .entry))) (queriesIn (now (script .entry)))) (now (buffer .entry)) ⌝ }
+    ensures { λ r. ⌜ recorded r (now (buffer .exit)) ≡ lent (asked (length (now (buffer .entry))) (benchOf bench (now (store .entry)) (now (lengths .entry))) (queriesOf (now (script .entry)))) (now (buffer .entry)) ⌝ }
 {
     let mut cursor = ScriptCursor::new();
     let mut at: usize = 0;
@@ -173,7 +173,6 @@ pub fn run(script: &[u8], lengths: &[u8], repeat: bool, buffer: &mut [u8]) -> Be
 {
     match script::check_script(script) {
         ScriptCheck::Queries(_) => run_checked(script, lengths, repeat, buffer),
-        ScriptCheck::TooLong => refused(3, 0),
-        ScriptCheck::Malformed => refused(5, 0),
+        ScriptCheck::Refused(refusal) => refused(wire::number(refusal), 0),
     }
 }

@@ -10,7 +10,7 @@ use Rattle.pid.specs.J1979.{j1979}
 use Rattle.pid.specs.Lengths.{mode01Lengths}
 use Rattle.group.specs.Group.{groupBytes}
 use Rattle.line_list.specs.Lines.{lineList}
-use Rattle.value.specs.Values.{valueBytes}
+use Rattle.value.specs.Values.{valueFormat}
 use Rattle.at_command.specs.Dialect.{atKind}
 use Rattle.reply.specs.Reply.{lineText, replyText}
 use Rattle.server_session.specs.Session.{freshSession}
@@ -25,7 +25,7 @@ use Rattle.client_session.specs.Start.{queryPidsSays}
 use Rattle.cards.specs.Cards.{cards, Hold}
 
 pub cards-hold : Hold cards
-unfolding has high isSpace raised hexDigit digit leading j1979 mode01Lengths groupBytes lineList valueBytes atKind lineText replyText canonical byteNumber byteTaken byteSays bytesSay answerSays replySays queryText textLines textLine replyLines walked answerOrder queryPidsSays
+unfolding has high isSpace raised hexDigit digit leading j1979 mode01Lengths groupBytes lineList valueFormat atKind lineText replyText canonical byteNumber byteTaken byteSays bytesSay answerSays replySays queryText textLines textLine replyLines walked answerOrder queryPidsSays
 cards-hold = (refl, (refl, (refl, (refl, (refl, (refl, (refl, (refl, (refl, (refl, (refl, (refl, (refl, (refl, tt))))))))))))))
 
 -- card 13: six PIDs pass, seven get 2; byte 128 of a line is stored, the next gets 10

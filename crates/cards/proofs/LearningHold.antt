@@ -7,7 +7,7 @@ use Rattle.hex.specs.Read.{digit, leading}
 use Rattle.pid.specs.J1979.{j1979}
 use Rattle.pid.specs.Lengths.{mode01Lengths}
 use Rattle.group.specs.Group.{groupBytes}
-use Rattle.value.specs.Values.{valueBytes}
+use Rattle.value.specs.Values.{valueFormat}
 use Rattle.query.specs.Query.{queryText}
 use Rattle.reply_lines.specs.Lines.{textLines}
 use Rattle.reply_lines.specs.Decode.{textLine, replyLines}
@@ -22,5 +22,5 @@ use Rattle.cards.specs.Example.{AsExpected}
 use Rattle.cards.specs.Learning.{learning}
 
 pub learning-holds : AsExpected learning
-unfolding isSpace raised has high hexDigit digit leading j1979 mode01Lengths groupBytes valueBytes queryText textLines textLine replyLines walked answerOrder learnLength unless readReply framingEffect commandSays queryPidSays queryPidsSays replyTakes pieceSays finishSays
+unfolding isSpace raised has high hexDigit digit leading j1979 mode01Lengths groupBytes valueFormat queryText textLines textLine replyLines walked answerOrder learnLength unless readReply framingEffect commandSays queryPidSays queryPidsSays replyTakes pieceSays finishSays
 learning-holds = (refl, (refl, (refl, (refl, (refl, (refl, (refl, (refl, (refl, (refl, (refl, (refl, (refl, (refl, (refl, (refl, (refl, (refl, (refl, (refl, tt))))))))))))))))))))

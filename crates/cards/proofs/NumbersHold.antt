@@ -7,7 +7,7 @@ use Rattle.group.specs.Group.{groupBytes}
 use Rattle.group.specs.Answers.{groupAt}
 use Rattle.line_list.specs.Lines.{line, Fits, lineList}
 use Rattle.line_list.specs.Answers.{lineAt, linesIn}
-use Rattle.value.specs.Values.{valueBytes, readRecord}
+use Rattle.value.specs.Values.{valueFormat, readRecord}
 use Rattle.value.specs.Answers.{valueAt}
 use Rattle.value.specs.Same.{SameRecord}
 use Rattle.pid.specs.J1979.{j1979}
@@ -19,7 +19,7 @@ use Rattle.cards.specs.Example.{AsExpected}
 use Rattle.cards.specs.Numbers.{numbers, twoParts}
 
 pub numbers-hold : AsExpected numbers
-unfolding groupBytes groupAt lineList lineAt linesIn valueBytes readRecord valueAt j1979 mode01Lengths script queryAt queriesIn
+unfolding groupBytes groupAt lineList lineAt linesIn valueFormat readRecord valueAt j1979 mode01Lengths script queryAt queriesIn
 numbers-hold = (refl, (refl, (refl, (refl, (refl, (refl, (refl, (refl, (refl, (refl, (refl, (refl, (refl, (refl, (refl, (refl, (refl, (refl, (refl, (refl, (refl, (refl, (refl, (refl, (refl, (refl, (refl, (refl, (refl, (refl, (refl, tt)))))))))))))))))))))))))))))))
 
 -- a record equals itself, and bytes that are no record equal nothing

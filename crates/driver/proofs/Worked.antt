@@ -11,7 +11,7 @@ use Rattle.pid.specs.J1979.{j1979}
 use Rattle.pid.specs.Lengths.{mode01Lengths}
 use Rattle.group.specs.Group.{groupBytes}
 use Rattle.line_list.specs.Lines.{lineList}
-use Rattle.value.specs.Values.{valueBytes}
+use Rattle.value.specs.Values.{valueFormat}
 use Rattle.at_command.specs.Dialect.{atKind}
 use Rattle.reply.specs.Reply.{lineText, replyText}
 use Rattle.server_session.specs.Session.{freshSession}
@@ -61,5 +61,5 @@ clientLog =
 
 client-log : storedOf (clientRun clientCalls (clientAt (freshClient true true) 0 (replicate 4096 0) (replicate 80 9) (replicate 60 9))) ≡
     storedAs 59 (speeds ++ replicate 4081 0) (values ++ replicate 67 9) (clientLog ++ (9 ∷ []))
-unfolding has high isSpace hexDigit digit leading j1979 mode01Lengths groupBytes valueBytes queryText textLines textLine replyLines walked answerOrder queryPidsSays replyTakes pieceSays finishSays calls
+unfolding has high isSpace hexDigit digit leading j1979 mode01Lengths groupBytes valueFormat queryText textLines textLine replyLines walked answerOrder queryPidsSays replyTakes pieceSays finishSays calls
 client-log = refl

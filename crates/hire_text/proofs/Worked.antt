@@ -9,7 +9,7 @@ use Rattle.pid.specs.J1979.{j1979}
 use Rattle.pid.specs.Lengths.{mode01Lengths}
 use Rattle.group.specs.Group.{groupBytes}
 use Rattle.line_list.specs.Lines.{lineList}
-use Rattle.value.specs.Values.{valueBytes}
+use Rattle.value.specs.Values.{valueFormat}
 use Rattle.at_command.specs.Dialect.{atKind}
 use Rattle.reply.specs.Reply.{lineText, replyText}
 use Rattle.server_session.specs.Bytes.{canonical, byteNumber, byteTaken, byteSays, bytesSay}
@@ -30,7 +30,7 @@ use Rattle.hire_text.specs.Hire.{refusedLine, runText, hireText, hirePri
 
 -- "Input bytes 01 0C 02 01 00 04 41 0C 1A F8 .. print `01 0C E9 0F 04 41 0C 1A F8`"
 example : hirePrints (0x01 ∷ 0x0C ∷ 0x02 ∷ 0x01 ∷ 0x00 ∷ 0x04 ∷ 0x41 ∷ 0x0C ∷ 0x1A ∷ 0xF8 ∷ []) ≡ ascii "01 0C E9 0F 04 41 0C 1A F8\n"
-unfolding has high isSpace raised hexDigit digit leading j1979 mode01Lengths groupBytes lineList valueBytes atKind lineText replyText canonical byteNumber byteTaken byteSays bytesSay answerSays replySays queryText textLines textLine replyLines walked answerOrder learnLength initSays queryPidSays queryPidsSays replyTakes pieceSays finishSays script exchanged pieces delivered initialised part runSays hireText
+unfolding has high isSpace raised hexDigit digit leading j1979 mode01Lengths groupBytes lineList valueFormat atKind lineText replyText canonical byteNumber byteTaken byteSays bytesSay answerSays replySays queryText textLines textLine replyLines walked answerOrder learnLength initSays queryPidSays queryPidsSays replyTakes pieceSays finishSays script exchanged pieces delivered initialised part runSays hireText
 example = refl
 
 -- "a malformed or too long script prints only that"

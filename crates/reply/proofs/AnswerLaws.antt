@@ -13,9 +13,9 @@ use Rattle.wire.specs.Put.{Put}
 use Rattle.wire.specs.Text.{ascii}
 use Rattle.wire.proofs.Cases.{by-test, from-no}
 use Rattle.wire.proofs.PutLaws.{put-whole}
-use Rattle.group.specs.Group.{Read, got, malformed}
-use Rattle.line_list.specs.Lines.{Line, lineList}
-use Rattle.line_list.proofs.StepLaws.{left-end}
+use Rattle.group.specs.Group.{Read, got, failed}
+use Rattle.line_list.specs.Lines.{Line, lineList, lineFormat}
+use Rattle.group.proofs.WalkLaws.{left-end}
 use Rattle.reply.specs.Shape.{chipReply}
 use Rattle.reply.specs.Reply.{lineText, replyText}
 use Rattle.reply.specs.Answers.{Lent, lent, fitted, repliedWith, replied}
@@ -51,16 +51,16 @@ module _ (linefeeds spaces headers : Bool) where
 
   of-size : (g : Read (List Line)) (n : ℕ) → sizeWith linefeeds spaces headers g ≡ result n →
       (ls : List Line) × (rest : List ℕ) × (g ≡ got ls rest) × (length (replyText linefeeds spaces headers ls) ≡ n)
-  of-size malformed n q = from-no cc
+  of-size (failed j) n q = from-no cc
   of-size (got ls rest) n q = (ls, rest, refl, cc)
 
-  of-refused : (g : Read (List Line)) → sizeWith linefeeds spaces headers g ≡ refused 5 → g ≡ malformed
-  of-refused malformed q = refl
+  of-refused : (g : Read (List Line)) → sizeWith linefeeds spaces headers g ≡ refused 5 → (j : ℕ) × (g ≡ failed j)
+  of-refused (failed j) q = (j, refl)
   of-refused (got ls rest) q = from-no cc
 
   of-replied : (g : Read (List Line)) (out : List ℕ) (n : ℕ) (left : List ℕ) → lent (Written n) left ≡ repliedWith linefeeds spaces headers g out →
       (ls : List Line) × (rest : List ℕ) × (g ≡ got ls rest) × (length (replyText linefeeds spaces headers ls) ≤ length out) × Put out 0 (replyText linefeeds spaces headers ls) n left
-  of-replied malformed out n left q = from-no (cc (ap (λ (x : Lent). x .answer) q))
+  of-replied (failed j) out n left q = from-no (cc (ap (λ (x : Lent). x .answer) q))
   of-replied (got ls rest) out n left q =
       let (h, p) = of-fitted (replyText linefeeds spaces headers ls) out n left q in
       (ls, rest, refl, h, p)
@@ -73,7 +73,7 @@ module _ (linefeeds spaces headers : Bool) where
     unfolding replySize
     size-told {r} {n} q d = of-size (lineList s) n (sym q ∙ ap sizeAnswer d)
 
-    pub size-refused : {r : ReplySize} → sizeAnswer r ≡ replySize linefeeds spaces headers s → r ≡ size.Malformed → lineList s ≡ malformed
+    pub size-refused : {r : ReplySize} → sizeAnswer r ≡ replySize linefeeds spaces headers s → r ≡ size.Malformed → (j : ℕ) × (lineList s ≡ failed j)
     unfolding replySize
     size-refused q d = of-refused (lineList s) (sym q ∙ ap sizeAnswer d)
 
@@ -82,7 +82,7 @@ module _ (linefeeds spaces headers : Bool) where
     module _ (ls : List Line) (rest : List ℕ) (q : lineList s ≡ got ls rest) where
       pub list-none : length s ≤ 0 → replyText linefeeds spaces headers ls ≡ chipReply linefeeds (ascii "NO DATA" ∷ [])
       unfolding lineList
-      list-none h = let e = left-end 64 s 0 h in let none : ls ≡ [] = cc in rw none reply-none
+      list-none h = let e = left-end lineFormat 64 s 0 h in let none : ls ≡ [] = cc in rw none reply-none
 
       pub list-some : 0 < length s → replyText linefeeds spaces headers ls ≡ chipReply linefeeds (map (lineText spaces headers) ls)
       unfolding lineList
@@ -95,7 +95,7 @@ module _ (linefeeds spaces headers : Bool) where
     -- The answers: 5, 6, and a text that was written
 
     module _ (out : List ℕ) where
-      pub replied-malformed : lineList s ≡ malformed → lent Malformed out ≡ replied linefeeds spaces headers s out
+      pub replied-malformed : {j : ℕ} → lineList s ≡ failed j → lent Malformed out ≡ replied linefeeds spaces headers s out
       unfolding replied
       replied-malformed q = rw q
 
@@ -120,7 +120,7 @@ module _ (linefeeds spaces headers : Bool) where
       -- as the code finds them, from the size
       module _ {r : ReplySize} (q : sizeAnswer r ≡ replySize linefeeds spaces headers s) where
         pub answer-malformed : r ≡ size.Malformed → lent Malformed out ≡ replied linefeeds spaces headers s out
-        answer-malformed d = replied-malformed (size-refused q d)
+        answer-malformed d = replied-malformed (size-refused q d .1)
 
         pub answer-small : {n : ℕ} → r ≡ size.Size n → length out < n → lent SmallBuffer out ≡ replied linefeeds spaces headers s out
         answer-small d h = let (ls, rest, g, n) = size-told q d in replied-small ls rest g (omega arith)

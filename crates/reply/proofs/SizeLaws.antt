@@ -10,9 +10,11 @@ use lib.Seq.{length-take-le}
 use Rattle.wire.specs.Answer.{Answer, result, refused}
 use Rattle.client_state.specs.Settings.{lineEnding}
 use Rattle.hex.specs.Digits.{hexByte}
-use Rattle.group.specs.Group.{Read, got, malformed, andThen}
-use Rattle.line_list.specs.Lines.{Line, line, readLine, readAllLines, lineList}
-use Rattle.line_list.proofs.StepLaws.{LineHere, left-end, left-line, left-none, left-full}
+use Rattle.group.specs.Group.{Read, got, failed, andThen}
+use Rattle.group.specs.Format.{readAll}
+use Rattle.group.proofs.WalkLaws.{left-end, left-thing, left-fails, left-full}
+use Rattle.line_list.specs.Lines.{Line, line, lineFormat, lineList}
+use Rattle.line_list.proofs.StepLaws.{LineHere}
 use Rattle.reply.specs.Shape.{chipReply}
 use Rattle.reply.specs.Reply.{spaceIf, furtherHex, dataHex, header, lineText, replyText}
 use Rattle.reply.specs.Steps.{headerSize, dataSize, sizeWith, replySize}
@@ -99,27 +101,27 @@ none-length linefeeds spaces headers =
 module _ (linefeeds spaces headers : Bool) where
   -- the answer when the lines so far make the size, and the others are read as said
   abbrev pub sized : ℕ → Read (List Line) → Answer ℕ
-  sized size malformed = refused 5
+  sized size (failed j) = refused 5
   sized size (got ls rest) = result (size + linesSize linefeeds spaces headers ls)
 
   sized-line : (size : ℕ) (l : Line) (g : Read (List Line)) →
       sized size (andThen g (λ ls t. got (l ∷ ls) t)) ≡ sized (size + (length (lineText spaces headers l) + length (lineEnding linefeeds))) g
-  sized-line size l malformed = refl
+  sized-line size l (failed j) = refl
   sized-line size l (got ls rest) = ap result (omega arith)
 
   sized-all : (g : Read (List Line)) → ((rest : List ℕ) → g ≡ got [] rest → ⊥) → sized (length (lineEnding linefeeds) + 1) g ≡ sizeWith linefeeds spaces headers g
-  sized-all malformed h = refl
+  sized-all (failed j) h = refl
   sized-all (got [] rest) h = absurd (h rest refl)
   sized-all (got (l ∷ ls) rest) h = ap result (sym (some-length linefeeds spaces headers l ls))
 
   module _ (s : List ℕ) where
     pub size-none : length s ≡ 0 → result (7 + length (lineEnding linefeeds) + (length (lineEnding linefeeds) + 1)) ≡ replySize linefeeds spaces headers s
     unfolding replySize lineList
-    size-none h = rw (left-end 64 s 0 (omega arith)) (ap result (sym (none-length linefeeds spaces headers)))
+    size-none h = rw (left-end lineFormat 64 s 0 (omega arith)) (ap result (sym (none-length linefeeds spaces headers)))
 
-    pub size-start : (at : ℕ) → (length s ≡ 0 → ⊥) → at ≡ 0 → sized (length (lineEnding linefeeds) + 1) (readAllLines (64 - 0) (drop at s)) ≡ replySize linefeeds spaces headers s
+    pub size-start : (at : ℕ) → (length s ≡ 0 → ⊥) → at ≡ 0 → sized (length (lineEnding linefeeds) + 1) (readAll lineFormat (64 - 0) (drop at s)) ≡ replySize linefeeds spaces headers s
     unfolding replySize lineList
-    size-start at h e = rw e (sized-all (readAllLines 64 s) (λ rest q. h (no-lines 64 s rest q)))
+    size-start at h e = rw e (sized-all (readAll lineFormat 64 s) (λ rest q. h (no-lines 64 s rest q)))
 
     -- a line at the cursor, whose size is r
     pub size-short : (at e start next r : ℕ) → LineHere s at e start next → r ≡ lineSize spaces headers (next - start) + length (lineEnding linefeeds) → r ≤ 773
@@ -128,24 +130,24 @@ module _ (linefeeds spaces headers : Bool) where
     here-size : (at e start next : ℕ) → LineHere s at e start next → length (lineText spaces headers (line e (take (next - start) (drop start s)))) ≡ lineSize spaces headers (next - start)
     here-size at e start next w =
         line-length spaces headers (line e (take (next - start) (drop start s))) ∙
-        ap (lineSize spaces headers) (length-take-le (next - start) (drop start s) (omega (arith, w .inside, length-drop start s)))
+        ap (lineSize spaces headers) (length-take-le (next - start) (drop start s) (omega (arith, w .here .inside, length-drop start s)))
 
     module _ (size n at : ℕ) where
       pub size-line : (e start next r : ℕ) → LineHere s at e start next → r ≡ lineSize spaces headers (next - start) + length (lineEnding linefeeds) → n ≤ 64 → (n ≡ 64 → ⊥) →
-          sized size (readAllLines (64 - n) (drop at s)) ≡ sized (size + r) (readAllLines (64 - (n + 1)) (drop next s))
+          sized size (readAll lineFormat (64 - n) (drop at s)) ≡ sized (size + r) (readAll lineFormat (64 - (n + 1)) (drop next s))
       size-line e start next r w q h k =
           let one : 64 - n ≡ suc (64 - (n + 1)) = omega arith in
-          rw (one, left-line (64 - (n + 1)) s at e start next w, q, ← here-size at e start next w)
-          (sized-line size (line e (take (next - start) (drop start s))) (readAllLines (64 - (n + 1)) (drop next s)))
+          rw (one, left-thing s at (w .here) (64 - (n + 1)), q, ← here-size at e start next w)
+          (sized-line size (line e (take (next - start) (drop start s))) (readAll lineFormat (64 - (n + 1)) (drop next s)))
 
       -- one line more than a list may have
-      pub size-full : (e start next : ℕ) → LineHere s at e start next → n ≡ 64 → sized size (readAllLines (64 - n) (drop at s)) ≡ refused 5
+      pub size-full : (e start next : ℕ) → LineHere s at e start next → n ≡ 64 → sized size (readAll lineFormat (64 - n) (drop at s)) ≡ refused 5
       size-full e start next w k =
           let none : 64 - n ≡ zero = omega arith in
-          rw (none, left-full s at (omega (arith, w .after, w .inside)))
+          rw (none, left-full lineFormat s at (omega (arith, w .here .after, w .here .inside)))
 
-      pub size-end : length s ≤ at → sized size (readAllLines (64 - n) (drop at s)) ≡ result size
-      size-end h = rw (left-end (64 - n) s at h) (ap result (omega arith))
+      pub size-end : length s ≤ at → sized size (readAll lineFormat (64 - n) (drop at s)) ≡ result size
+      size-end h = rw (left-end lineFormat (64 - n) s at h) (ap result (omega arith))
 
-      pub size-bad : at < length s → readLine (drop at s) ≡ malformed → sized size (readAllLines (64 - n) (drop at s)) ≡ refused 5
-      size-bad h q = rw (left-none (64 - n) s at h q)
+      pub size-bad : {j : ℕ} → at < length s → lineFormat .read (drop at s) ≡ failed j → sized size (readAll lineFormat (64 - n) (drop at s)) ≡ refused 5
+      size-bad h q = let (k, e) = left-fails lineFormat (64 - n) s at h q in rw e

@@ -15,7 +15,8 @@ use Rattle.wire.specs.Text.{ascii}
 use Rattle.wire.proofs.Cases.{from-no, at-below}
 use Rattle.group.specs.Group.{got}
 use Rattle.group.proofs.GroupLaws.{then-got}
-use Rattle.line_list.specs.Lines.{Line, readLine, readAllLines}
+use Rattle.line_list.specs.Lines.{Line, lineFormat}
+use Rattle.group.specs.Format.{readAll}
 use Rattle.reply.specs.Reply.{ecuId, spaceIf, furtherHex, dataHex, header, lineText}
 
 -- an ECU that is known
@@ -96,11 +97,11 @@ module _ (s out₀ : List ℕ) (at₀ i : ℕ) (out : List ℕ) (at : ℕ) (h : 
       (rw (digit-listed (getD s i 0 / 16) (omega arith), digit-listed (getD s i 0 % 16) (omega arith), two, add-one, high) (stored out at (32 ∷ hexDigit (getD s i 0 / 16) ∷ hexDigit (getD s i 0 % 16) ∷ []) k))
 
 -- only an empty list has no lines
-pub no-lines : (n : ℕ) (s rest : List ℕ) → readAllLines n s ≡ got [] rest → length s ≡ 0
+pub no-lines : (n : ℕ) (s rest : List ℕ) → readAll lineFormat n s ≡ got [] rest → length s ≡ 0
 no-lines zero [] rest q = refl
 no-lines (suc n) [] rest q = refl
 no-lines zero (b ∷ s) rest q = from-no cc
 no-lines (suc n) (b ∷ s) rest q =
-    let (l, t, p, k) = then-got (readLine (b ∷ s)) _ [] rest q in
-    let (ms, u, p₂, k₂) = then-got (readAllLines n t) _ [] rest k in
+    let (l, t, p, k) = then-got (lineFormat .read (b ∷ s)) _ [] rest q in
+    let (ms, u, p₂, k₂) = then-got (readAll lineFormat n t) _ [] rest k in
     from-no cc

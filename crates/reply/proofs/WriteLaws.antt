@@ -9,9 +9,11 @@ use lib.Seq.{sets}
 use Rattle.wire.specs.Put.{Put}
 use Rattle.wire.proofs.PutLaws.{put-rest, put-same}
 use Rattle.client_state.specs.Settings.{lineEnding}
-use Rattle.group.specs.Group.{got, malformed}
-use Rattle.line_list.specs.Lines.{Line, line, readLine, readAllLines, lineList}
-use Rattle.line_list.proofs.StepLaws.{LineHere, checked-end, checked-line, checked-none}
+use Rattle.group.specs.Group.{got, failed}
+use Rattle.group.specs.Format.{readAll}
+use Rattle.group.proofs.WalkLaws.{checked-end, checked-thing, checked-none}
+use Rattle.line_list.specs.Lines.{Line, line, lineFormat, lineList}
+use Rattle.line_list.proofs.StepLaws.{LineHere}
 use Rattle.reply.specs.Shape.{chipReply}
 use Rattle.reply.specs.Reply.{lineText}
 use Rattle.reply.specs.Steps.{Room}
@@ -27,7 +29,7 @@ module _ (linefeeds spaces headers : Bool) (s : List ℕ) where
     pub most : ℕ
     pub lines : List Line
     pub rest : List ℕ
-    pub reads : readAllLines most (drop cursor s) ≡ got lines rest
+    pub reads : readAll lineFormat most (drop cursor s) ≡ got lines rest
     pub room : at + length (linesText linefeeds spaces headers lines) ≤ length out
     pub puts : Put out at (linesText linefeeds spaces headers lines) r left
 
@@ -43,14 +45,14 @@ module _ (linefeeds spaces headers : Bool) (s : List ℕ) where
     -- there is room for the line at the cursor
     pub left-room : (e start next : ℕ) → LineHere s cursor e start next → at + length (lineText spaces headers (line e (take (next - start) (drop start s)))) ≤ length out
     left-room e start next w =
-        let (m, ms, _, here, reads) = checked-line (k .most) s cursor (k .lines) (k .rest) (k .reads) e start next w in
+        let (m, ms, _, here, reads) = checked-thing s cursor (w .here) (k .most) (k .lines) (k .rest) (k .reads) in
         let text = lineText spaces headers (line e (take (next - start) (drop start s))) in
         omega (arith, rw here at (k .room), length-append text (lineEnding linefeeds ++ linesText linefeeds spaces headers ms))
 
     pub left-next : {o₁ o₂ : List ℕ} {a₁ a₂ : ℕ} (e start next : ℕ) → LineHere s cursor e start next →
         Put out at (lineText spaces headers (line e (take (next - start) (drop start s)))) a₁ o₁ → Put o₁ a₁ (lineEnding linefeeds) a₂ o₂ → Left o₂ next a₂ r left
     left-next e start next w p q =
-        let (m, ms, _, here, reads) = checked-line (k .most) s cursor (k .lines) (k .rest) (k .reads) e start next w in
+        let (m, ms, _, here, reads) = checked-thing s cursor (w .here) (k .most) (k .lines) (k .rest) (k .reads) in
         record {
           most = m;
           lines = ms;
@@ -61,7 +63,7 @@ module _ (linefeeds spaces headers : Bool) (s : List ℕ) where
         }
 
     pub left-end : {o₁ : List ℕ} {a₁ : ℕ} → length s ≤ cursor → Put out at (chipReply linefeeds []) a₁ o₁ → (a₁ ≡ r) × (o₁ ≡ left)
-    left-end h p = put-same p (rw (checked-end (k .most) s cursor (k .lines) (k .rest) (k .reads) h) at (k .puts))
+    left-end h p = put-same p (rw (checked-end lineFormat (k .most) s cursor (k .lines) (k .rest) (k .reads) h) at (k .puts))
 
-    pub left-bad : cursor < length s → readLine (drop cursor s) ≡ malformed → ⊥
-    left-bad h q = checked-none (k .most) s cursor (k .lines) (k .rest) (k .reads) h q
+    pub left-bad : {j : ℕ} → cursor < length s → lineFormat .read (drop cursor s) ≡ failed j → ⊥
+    left-bad h q = checked-none lineFormat (k .most) s cursor (k .lines) (k .rest) (k .reads) h q

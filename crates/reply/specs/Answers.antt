@@ -7,7 +7,7 @@ use lib.Dec.{ltb}
 use lib.ListN.{length}
 use lib.Seq.{sets}
 use Rattle.wire.specs.Answer.{Answer, result, refused}
-use Rattle.group.specs.Group.{Read, got, malformed}
+use Rattle.group.specs.Group.{Read, got, failed}
 use Rattle.line_list.specs.Lines.{Line, lineList}
 use Rattle.reply.specs.Reply.{replyText}
 use Rattle.reply.specs.declared.ReplyAnswer.{ReplyAnswer}
@@ -32,7 +32,7 @@ abbrev pub fitted : List ℕ → List ℕ → Lent
 fitted text out = cond (ltb (length out) (length text)) (record { answer = refused 6; out = out }) (record { answer = result (length text); out = sets out 0 text })
 
 abbrev pub repliedWith : Bool → Bool → Bool → Read (List Line) → List ℕ → Lent
-repliedWith linefeeds spaces headers malformed out = record { answer = refused 5; out = out }
+repliedWith linefeeds spaces headers (failed j) out = record { answer = refused 5; out = out }
 repliedWith linefeeds spaces headers (got ls rest) out = fitted (replyText linefeeds spaces headers ls) out
 
 -- the reply of a line list

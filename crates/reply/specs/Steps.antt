@@ -5,7 +5,7 @@ use mathlib.Core.List.{List, map}
 use Prim.Native.Nat.{ℕ, _+_, _-_, _*_, _≤_}
 use lib.ListN.{length}
 use Rattle.wire.specs.Answer.{Answer, result, refused}
-use Rattle.group.specs.Group.{Read, got, malformed}
+use Rattle.group.specs.Group.{Read, got, failed}
 use Rattle.line_list.specs.Lines.{Line, lineList}
 use Rattle.reply.specs.Shape.{chipReply}
 use Rattle.reply.specs.Reply.{spaceIf, lineText, replyText}
@@ -25,7 +25,7 @@ sizeAnswer (size.Size n) = result n
 sizeAnswer size.Malformed = refused 5
 
 abbrev pub sizeWith : Bool → Bool → Bool → Read (List Line) → Answer ℕ
-sizeWith linefeeds spaces headers malformed = refused 5
+sizeWith linefeeds spaces headers (failed j) = refused 5
 sizeWith linefeeds spaces headers (got ls rest) = result (length (replyText linefeeds spaces headers ls))
 
 -- the size of the reply of a line list

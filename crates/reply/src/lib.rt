@@ -221,7 +221,7 @@ fn reply_size(list: &[u8], linefeeds: bool, spaces: bool, headers: bool) -> Repl
                 lines += 1;
             }
             LineStep::End => return ReplySize::Size(size),
-            LineStep::Malformed => return ReplySize::Malformed,
+            LineStep::Refused(_) => return ReplySize::Malformed,
         }
     }
 }
@@ -243,7 +243,7 @@ fn write_lines(list: &[u8], linefeeds: bool, spaces: bool, headers: bool, out: &
             }
             LineStep::End => return put_prompt(out, at, linefeeds),
             // Not in a well-formed list.
-            LineStep::Malformed => return at,
+            LineStep::Refused(_) => return at,
         }
     }
 }

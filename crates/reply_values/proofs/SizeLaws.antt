@@ -16,7 +16,7 @@ use Rattle.hex.specs.Read.{hexNumber, pairBytes}
 use Rattle.pid.specs.Lengths.{lengthIn}
 use Rattle.group.specs.Group.{groupBytes}
 use Rattle.group.proofs.GroupLaws.{groupBytes-small, groupBytes-two}
-use Rattle.value.specs.Values.{Value, value, valueBytes, valuesBytes}
+use Rattle.value.specs.Values.{Value, value, valueFormat, valuesBytes}
 use Rattle.value.proofs.ValueLaws.{value-length}
 use Rattle.reply_lines.specs.Lines.{onto, splitCR, trimmed, stays, textLines, unspaced}
 use Rattle.reply_lines.specs.Decode.{textLine, replyLines}
@@ -28,7 +28,7 @@ use Rattle.reply_values.proofs.WalkLaws.{span-within, bytes-append}
 -- Values
 
 -- beside ECU+1 a value has at most four bytes for its PID and for each byte of its data
-value-size : (v : Value) → length (v .bytes) ≤ 4096 → length (valueBytes v) ≤ 4 * suc (length (v .bytes)) + length (groupBytes (v .ecu))
+value-size : (v : Value) → length (v .bytes) ≤ 4096 → length (valueFormat .write v) ≤ 4 * suc (length (v .bytes)) + length (groupBytes (v .ecu))
 value-size v h = omega (arith, value-length v, number (length (v .bytes)) h) where
   number : (n : ℕ) → n ≤ 4096 → length (groupBytes (2 + n)) ≤ 1 + 3 * n
   number n h =
@@ -54,7 +54,7 @@ walk-size (suc f) lengths e (p ∷ s) h =
     let left = length-drop n s in
     let first = value-size v (omega arith) in
     let others = walk-size f lengths e (drop n s) (omega arith) in
-    omega (arith, length-append (valueBytes v) (valuesBytes rest), mul-suc (length (groupBytes e)) (length rest))
+    omega (arith, length-append (valueFormat .write v) (valuesBytes rest), mul-suc (length (groupBytes e)) (length rest))
 
 -- Lines
 

@@ -14,7 +14,7 @@ use Rattle.wire.proofs.Cases.{by-test}
 use Rattle.wire.proofs.PutLaws.{put-none, put-rest, put-nil}
 use Rattle.pid.specs.Lengths.{lengthIn}
 use Rattle.line_list.specs.Lines.{Line}
-use Rattle.value.specs.Values.{Value, value, valueBytes, valuesBytes}
+use Rattle.value.specs.Values.{Value, value, valueFormat, valuesBytes}
 use Rattle.value.proofs.RecordLaws.{ValuesFit}
 use Rattle.reply_values.specs.Values.{spanOf, walk, walked, lineValues, valuesOf}
 
@@ -63,7 +63,7 @@ module _ (lengths : List ℕ) (e : ℕ) (s : List ℕ) (i : ℕ) where
   -- the turn and the end of the loop that writes them, where a value's data is the part from i + 1 to i + 1 + n
   pub walked-turn : {out o₁ left : List ℕ} {at a r : ℕ} (n : ℕ) → i < length s → n ≡ spanOf (lengthIn lengths (getD s i 0)) (length s - (i + 1)) →
       Put out at (valuesBytes (walked lengths e (drop i s))) r left →
-      Put out at (valueBytes (value (getD s i 0) e (take (i + 1 + n - (i + 1)) (drop (i + 1) s)))) a o₁ →
+      Put out at (valueFormat .write (value (getD s i 0) e (take (i + 1 + n - (i + 1)) (drop (i + 1) s)))) a o₁ →
       Put o₁ a (valuesBytes (walked lengths e (drop (i + 1 + n) s))) r left
   walked-turn n h q p w =
       let same : i + 1 + n - (i + 1) ≡ n = omega arith in
@@ -109,7 +109,7 @@ values-append lengths (l ∷ ls) ms =
 
 pub bytes-append : (vs ws : List Value) → valuesBytes (vs ++ ws) ≡ valuesBytes vs ++ valuesBytes ws
 bytes-append [] ws = refl
-bytes-append (v ∷ vs) ws = ap (λ s. valueBytes v ++ s) (bytes-append vs ws) ∙ sym (append-assoc (valueBytes v) (valuesBytes vs) (valuesBytes ws))
+bytes-append (v ∷ vs) ws = ap (λ s. valueFormat .write v ++ s) (bytes-append vs ws) ∙ sym (append-assoc (valueFormat .write v) (valuesBytes vs) (valuesBytes ws))
 
 -- every value has its line's ECU
 abbrev pub FromEcu : ℕ → List Value → Type 0

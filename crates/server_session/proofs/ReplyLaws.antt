@@ -11,9 +11,9 @@ use borrow.Author.Tests.{eqb-true, eqb-false, le-ltb, ltb-false}
 use Rattle.wire.specs.Answer.{Answer, result, refused}
 use Rattle.wire.specs.Call.{Said, refusing, Served, lent}
 use Rattle.wire.proofs.Cases.{by-test, from-no, or-none}
-use Rattle.group.specs.Group.{Read, got, malformed}
-use Rattle.line_list.specs.Lines.{Line, lineList}
-use Rattle.line_list.proofs.StepLaws.{left-end}
+use Rattle.group.specs.Group.{Read, got, failed}
+use Rattle.group.proofs.WalkLaws.{left-end}
+use Rattle.line_list.specs.Lines.{Line, lineFormat, lineList}
 use Rattle.wire.specs.Put.{Put}
 use Rattle.wire.specs.Text.{ascii, high}
 use Rattle.wire.proofs.PutLaws.{put-whole}
@@ -112,7 +112,7 @@ module _ (s : Session) (list : List ℕ) (out left : List ℕ) (turn : isObd (s 
 
   five : (g : Read (List Line)) → R.lent Malformed left ≡ R.repliedWith lf sp hd g out →
       numbered 5 ≡ lent (replyRead (length out) s g) out
-  five malformed q = let e : left ≡ out = ap (λ (x : R.Lent). x .out) q in rw e
+  five (failed j) q = let e : left ≡ out = ap (λ (x : R.Lent). x .out) q in rw e
   five (got ls rest) q =
       let text = replyText lf sp hd ls in
       by-test (ltb (length out) (length text))
@@ -121,7 +121,7 @@ module _ (s : Session) (list : List ℕ) (out left : List ℕ) (turn : isObd (s 
 
   six : (g : Read (List Line)) → R.lent SmallBuffer left ≡ R.repliedWith lf sp hd g out →
       numbered 6 ≡ lent (replyRead (length out) s g) out
-  six malformed q = from-no (cc (ap (λ (x : R.Lent). x .answer) q))
+  six (failed j) q = from-no (cc (ap (λ (x : R.Lent). x .answer) q))
   six (got ls rest) q =
       let text = replyText lf sp hd ls in
       by-test (ltb (length out) (length text))
@@ -149,7 +149,7 @@ module _ (s : Session) (list : List ℕ) (out left : List ℕ) (turn : isObd (s 
   kept-after ls rest g =
       by-test (eqb (length list) 0)
       (λ t.
-      let g₂ = left-end 64 list 0 (omega (arith, eqb-true (length list) 0 t)) in
+      let g₂ = left-end lineFormat 64 list 0 (omega (arith, eqb-true (length list) 0 t)) in
       let none : ls ≡ [] = cc in
       rw (t, none))
       (λ t. rw t (some-lines ls (λ z. eqb-false (length list) 0 t (no-lines 64 list rest (g ∙ rw z)))))
@@ -239,7 +239,7 @@ pub answer-written : (s : Session) (ati device out left : List ℕ) (r : ReplySt
 answer-written s ati device out left r e = within out left r (answer-short (length out) s ati device) e
 
 read-short : (room : ℕ) (s : Session) (g : Read (List Line)) → Short room (replyRead room s g)
-read-short room s malformed = short-number 5 s
+read-short room s (failed j) = short-number 5 s
 read-short room s (got ls rest) =
     short-any (ltb room (length (repliedTo s ls .text))) (λ _. short-number 6 s) (λ f. record { fits = ltb-false room (length (repliedTo s ls .text)) f })
 

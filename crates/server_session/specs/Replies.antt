@@ -9,7 +9,7 @@ use Rattle.wire.specs.Answer.{Answer, result, refused}
 use Rattle.wire.specs.Call.{Said, saying, refusing, Served}
 use Rattle.wire.specs.Text.{high}
 use Rattle.client_state.specs.Settings.{Settings, withLast}
-use Rattle.group.specs.Group.{Read, got, malformed}
+use Rattle.group.specs.Group.{Read, got, failed}
 use Rattle.line_list.specs.Lines.{Line, lineList}
 use Rattle.at_command.specs.Dialect.{atKind, kindSettings, kindLines}
 use Rattle.reply.specs.Shape.{chipReply}
@@ -65,7 +65,7 @@ abbrev pub repliedTo : Session → List Line → Said Session (Unit {0})
 repliedTo s ls = answered (lastAfter ls s) (replyText (s .state .linefeeds) (s .state .spaces) (s .state .headers) ls)
 
 abbrev pub replyRead : ℕ → Session → Read (List Line) → Said Session (Unit {0})
-replyRead room s malformed = refusing 5 s
+replyRead room s (failed j) = refusing 5 s
 replyRead room s (got ls rest) = ifRoom room s (repliedTo s ls)
 
 unfoldable pub replySays : ℕ → Session → List ℕ → Said Session (Unit {0})

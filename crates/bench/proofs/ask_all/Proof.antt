@@ -1,6 +1,6 @@
 -- `bench::ask_all` meets its contract.
 use Rattle.bench.proofs.LoopLaws.{Left, left-start, left-done, left-refused, left-next}
-use Rattle.bench.specs.Steps.{benchOf, queriesIn}
+use Rattle.bench.specs.Steps.{benchOf, queriesOf}
 use Rattle.bench.specs.Run.{replyRoom, asked, Recorded, lent}
 use Rattle.script.proofs.StepLaws.{QueryHere, step-query}
 use Rattle.script.specs.Script.{Query}
@@ -15,7 +15,7 @@ use Rattle.bench.proofs.ask_all.Tie as tie
 
 abbrev Inv-loop : tie.InvT-loop
 Inv-loop script lengths bench₀ buffer₀ work₀ store₀ cursor₀ at₀ bench buffer work store cursor at =
-    Left (lent (asked (length buffer₀) (benchOf bench₀ store₀ lengths) (queriesIn script)) buffer₀) script lengths bench (cursor .at) at buffer store × (length work ≡ replyRoom) × (length buffer ≡ length buffer₀) × (length store ≡ length store₀)
+    Left (lent (asked (length buffer₀) (benchOf bench₀ store₀ lengths) (queriesOf script)) buffer₀) script lengths bench (cursor .at) at buffer store × (length work ≡ replyRoom) × (length buffer ≡ length buffer₀) × (length store ≡ length store₀)
 
 abbrev μ-loop : tie.MeasureT-loop
 μ-loop script lengths bench₀ buffer₀ work₀ store₀ cursor₀ at₀ bench buffer work store cursor at =
@@ -31,7 +31,7 @@ start k = k .before .before .before .before .before .before .before
 -- all that the run comes to
 abbrev whole : tie.Start Inv-loop μ-loop → Recorded
 whole s =
-    lent (asked (length (s .args .buffer .now)) (benchOf (s .args .bench) (s .args .store .now) (s .args .lengths .now)) (queriesIn (s .args .script .now))) (s .args .buffer .now)
+    lent (asked (length (s .args .buffer .now)) (benchOf (s .args .bench) (s .args .store .now) (s .args .lengths .now)) (queriesOf (s .args .script .now))) (s .args .buffer .now)
 
 abbrev turn : tie.After-known-told Inv-loop μ-loop → tie.At-loop Inv-loop μ-loop
 turn k = k .before .before .before .before
@@ -87,13 +87,13 @@ part-part-end : tie.Need-part-part-end Inv-loop μ-loop
 part-part-end c = omega (arith, here c .1 .room)
 
 sub-part-2 : tie.Need-sub-part-2 Inv-loop μ-loop
-sub-part-2 c = let w = here (c .before) .1 in omega (arith, w .ordered, w .inside)
+sub-part-2 c = let w = here (c .before) .1 in omega (arith, w .ordered, w .here .inside)
 
 part-part-start-2 : tie.Need-part-part-start-2 Inv-loop μ-loop
-part-part-start-2 c = let w = here (c .before) .1 in omega (arith, w .ordered, w .inside)
+part-part-start-2 c = let w = here (c .before) .1 in omega (arith, w .ordered, w .here .inside)
 
 part-part-end-2 : tie.Need-part-part-end-2 Inv-loop μ-loop
-part-part-end-2 c = let w = here (c .before) .1 in omega (arith, w .ordered, w .inside)
+part-part-end-2 c = let w = here (c .before) .1 in omega (arith, w .ordered, w .here .inside)
 
 part-requires : tie.Need-part-requires Inv-loop μ-loop
 part-requires c κs = let k = c .before .before .before .before in (here k .1 .counted, turn k .loop .inv .1)
@@ -123,7 +123,7 @@ enum-told-2 : tie.Need-enum-told-2 Inv-loop μ-loop
 enum-told-2 c = search needs
 
 loop-less : tie.Need-loop-less Inv-loop μ-loop
-loop-less c = let w = here (found (c .before .before .before)) .1 in omega (arith, w .after, w .inside)
+loop-less c = let w = here (found (c .before .before .before)) .1 in omega (arith, w .here .after, w .here .inside)
 
 loop-again : tie.Need-loop-again Inv-loop μ-loop
 loop-again c =

@@ -7,13 +7,14 @@ use borrow.Author.Needs.{needs}
 use Rattle.reply.proofs.SizeLaws.{ending-short, sized, size-none, size-start, size-line, size-short, size-end, size-bad, size-full}
 use Rattle.reply.specs.Steps.{replySize}
 use Rattle.line_list.proofs.StepLaws.{step-line, step-end, step-none}
-use Rattle.line_list.specs.Lines.{readAllLines}
+use Rattle.line_list.specs.Lines.{lineFormat}
+use Rattle.group.specs.Format.{readAll}
 use Rattle.reply.proofs.reply_size.Statement.{statement}
 use Rattle.reply.proofs.reply_size.Tie as tie
 
 abbrev Inv-loop : tie.InvT-loop
 Inv-loop list linefeeds spaces headers ending size₀ cursor₀ lines₀ size cursor lines =
-    (lines ≤ 64) × (size ≤ 3 + 773 * lines) × (sized linefeeds spaces headers size (readAllLines (64 - lines) (drop (cursor .at) list)) ≡ replySize linefeeds spaces headers list)
+    (lines ≤ 64) × (size ≤ 3 + 773 * lines) × (sized linefeeds spaces headers size (readAll lineFormat (64 - lines) (drop (cursor .at) list)) ≡ replySize linefeeds spaces headers list)
 
 abbrev μ-loop : tie.MeasureT-loop
 μ-loop list linefeeds spaces headers ending size₀ cursor₀ lines₀ size cursor lines = 64 - lines
