@@ -58,12 +58,7 @@ readReply q reply out =
     let text = valuesBytes (r .values) in
     unless ((ltb 4096 (length reply), 8) ∷ (ltb (length out) (length text), 6) ∷ [])
     (λ n. record { answer = refused n; lengths = q .lengths; counts = q .counts; out = out })
-    (record {
-      answer = result (record { count = length (r .values); written = length text; given = r .given });
-      lengths = r .lengths;
-      counts = r .counts;
-      out = sets out 0 text;
-    })
+    (record { answer = result (record { count = length (r .values); written = length text; given = r .given }); lengths = r .lengths; counts = r .counts; out = sets out 0 text })
 
 -- the cases of ReadAnswer
 abbrev pub readAnswer : ReadAnswer → Answer ValuesRead
