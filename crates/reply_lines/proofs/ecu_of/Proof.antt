@@ -18,13 +18,19 @@ enum-known-id : tie.Need-enum-known-id
 enum-known-id c = search needs
 
 add-result : tie.Need-add-result
-add-result c = record { fits = let k = below-at 4096 (number-small (c .before .before .before .before .args .a ∷ c .before .before .before .before .args .b ∷ c .before .before .before .before .args .c ∷ [])) (sym (c .before .before .before .hex-id .ensures) ∙ ap hexOf (c .before .id .given .1)) in omega arith }
+add-result c =
+    let at-hex-id = c .before .before .before in
+    let start = at-hex-id .before in
+    record { fits = let k = below-at 4096 (number-small (start .args .a ∷ start .args .b ∷ start .args .c ∷ []))
+        (sym (at-hex-id .hex-id .ensures) ∙ ap hexOf (c .before .id .given .1)) in omega arith }
 
 enum-told : tie.Need-enum-told
 enum-told c = search needs
 
 returns : tie.Need-returns
-returns c = add-one _ ∙ ap (λ o. suc (Option·getD o 0)) (sym (ap hexOf (c .before .id .given .1)) ∙ c .before .before .before .hex-id .ensures)
+returns c =
+    let at-hex-id = c .before .before .before in
+    add-one _ ∙ ap (λ o. suc (Option·getD o 0)) (sym (ap hexOf (c .before .id .given .1)) ∙ at-hex-id .hex-id .ensures)
 
 returns-2 : tie.Need-returns-2
 returns-2 c = ap (λ o. suc (Option·getD o 0)) (sym (ap hexOf (c .enum-told .given .1)) ∙ c .before .before .hex-id .ensures)

@@ -10,7 +10,9 @@ slice-aggregate-result : tie.Need-slice-aggregate-result
 slice-aggregate-result c = search needs
 
 returns : tie.Need-returns
-returns c = sym (part-past (c .before .before .args .reply .now) (c .before .before .args .start) (c .before .before .args .end - c .before .before .args .start) (c .before .if1 .taken))
+returns c =
+    let start = c .before .before in
+    sym (part-past (start .args .reply .now) (start .args .start) (start .args .end - start .args .start) (c .before .if1 .taken))
 
 slice-aggregate-result-2 : tie.Need-slice-aggregate-result-2
 slice-aggregate-result-2 c = search needs

@@ -19,7 +19,10 @@ slice-aggregate-result : tie.Need-slice-aggregate-result
 slice-aggregate-result c = search needs
 
 returns : tie.Need-returns
-returns c = c .part .ensures ∙ ap (λ (s : TextStep). stepText (c .before .before .before .before .before .args .reply .now) (textStep s)) (sym (c .before .before .step .given .1))
+returns c =
+    let at-step = c .before .before in
+    let start = at-step .before .before .before in
+    c .part .ensures ∙ ap (λ (s : TextStep). stepText (start .args .reply .now) (textStep s)) (sym (at-step .step .given .1))
 
 returns-2 : tie.Need-returns-2
 returns-2 c = search needs

@@ -112,7 +112,8 @@ module _ {M : Type 1} (𝓤 : URA M) (H : Heap 𝓤) (A : Atoms 𝓤) (W : Given
   apart is =
       qed W ((‵ (flft κ q) ⊛ ‵ ftrue) ∷ ‵ (owns (B (κ, tt) ∷ S.the-row ∷ []) (d, (t, tt)) (mach ∷ [], (w ∷ [], tt))) ∷ []) ∵
       move ! (1 ∷ []) $ fsplit ! $ move ! (1 ∷ []) $ drop ! $ use1 W (‵ Own ⊛ ‵ Own) (LL.copy D (T′.the-copy (namedLft 1 0 tt (κ, tt))) 𝓤 H A W .twice d (mach ∷ [])) $ split ! $
-      use1 W (given (mach ∷ [] ≡ mach ∷ []) (‵ (all-own (D .parts) L vd))) (own-open 𝓤 H A W D L vd mach) $ learn ! (λ _. use1 W (‵ (ownAt (D .parts) L 0 (d .reply)) ⊛ ‵ (rest (D .parts) L 0 vd)) (own-out 𝓤 H A W (D .parts) L 0 vd) $ split ! $
+      use1 W (given (mach ∷ [] ≡ mach ∷ []) (‵ (all-own (D .parts) L vd))) (own-open 𝓤 H A W D L vd mach) $ learn !
+          (λ _. use1 W (‵ (ownAt (D .parts) L 0 (d .reply)) ⊛ ‵ (rest (D .parts) L 0 vd)) (own-out 𝓤 H A W (D .parts) L 0 vd) $ split ! $
       -- [what reply owns; what at owns; what the struct owns; the token]
       move ! (1 ∷ []) $ drop ! $ nothing ! $ owned ! S.the-row (Is S.the-row) (EL.makes S.the-type S′.the-plain 𝓤 H A) t _ is $ fjoin ! $ move ! (1 ∷ 0 ∷ []) $ fjoin ! $
       move ! (2 ∷ 0 ∷ []) $ use2 W (raw (StepText 𝓤 H A mem run .pre to)) asked $ frame ! $ done !)
@@ -128,14 +129,17 @@ module _ {M : Type 1} (𝓤 : URA M) (H : Heap 𝓤) (A : Atoms 𝓤) (W : Given
       move ! (1 ∷ []) $ frame ! $ nothing ! $ owned ! S.the-row (Is S.the-row) (EL.makes S.the-type S′.the-plain 𝓤 H A) t _ is $ fjoin ! $ move ! (2 ∷ 0 ∷ []) $ fjoin ! $ frame ! $ done !
 
   module _ (C : Calls 𝓤 H) (Λ : Loops 𝓤 H) (fm : FmC 𝓤 H (W .laws) C) (known : Triple 𝓤 (C #reply-lines·step-text) (StepText 𝓤 H A mem run)) where
-    walk : Holds (hasTy (T′.mir (named 0)) mach) × WT mach → Is S.the-row t (w ∷ []) → ent 𝓤 (onEntry 𝓤 H A text.signature (κ, tt) (q, tt) (d, (t, tt)) (mach ∷ [], (w ∷ [], tt))) (WpFn 𝓤 H C Λ code.function (mach ∷ w ∷ []) Post)
+    walk : Holds (hasTy (T′.mir (named 0)) mach) × WT mach → Is S.the-row t (w ∷ []) → ent 𝓤 (onEntry 𝓤 H A text.signature (κ, tt) (q, tt) (d, (t, tt)) (mach ∷ [], (w ∷ [], tt)))
+        (WpFn 𝓤 H C Λ code.function (mach ∷ w ∷ []) Post)
     walk wt is =
         qed W (raw (onEntry 𝓤 H A text.signature (κ, tt) (q, tt) (d, (t, tt)) (mach ∷ [], (w ∷ [], tt))) ∷ []) ∵ enter ! C Λ code.function (mach ∷ w ∷ []) _ $
-        alloc1 ! (λ l₀. alloc1 ! (λ l₁. alloc1 ! (λ l₂. alloc1 ! (λ l₃. alloc0 ! $ params1 ! $ pass1 ! (init ! 4 refl wt) $ pass1 ! (init ! 2 refl (EL.lawful S.the-type S′.the-laws 𝓤 H A W tt .typed t _ is .0)) $ pass0 ! $
+        alloc1 ! (λ l₀. alloc1 ! (λ l₁. alloc1 ! (λ l₂. alloc1 ! (λ l₃. alloc0 ! $ params1 ! $ pass1 ! (init ! 4 refl wt) $ pass1 !
+            (init ! 2 refl (EL.lawful S.the-type S′.the-laws 𝓤 H A W tt .typed t _ is .0)) $ pass0 ! $
         assigns ! (of-opd ! (load ! (from ! (fld ! refl (stop !))) (look-in ! 4 (sub ! 0 refl (whole !))))) (from ! (stop !)) (init ! 0 refl (tt, wt .1 .0)) $
         move ! (8 ∷ []) $ use1 W (raw (StepText 𝓤 H A mem run .pre to) ⊛ ‵ Own) (apart is) $ split ! $
         calls-at ! fm (StepText 𝓤 H A mem run) known to (and-then ! (load ! (from ! (stop !)) (look ! 2 refl)) (and-then ! (load ! (from ! (stop !)) (look ! 4 refl)) (no-more !))) (λ u.
-        use1 W (later (some (λ (r : RefT (List ℕ)). ((‵ (flft κ q) ⊛ ‵ ftrue) ⊛ ‵ (ShrSlice (named 0) κ u8 .own r (u ∷ []))) ⊛ raw (ensured 𝓤 H A step.ended (step.clauses 𝓤 H A mem run) (κ, tt) (d .reply, (t, tt)) tt r)))) (id⊢ 𝓤 _) $ await ! tt $ pick ! (λ r.
+        use1 W (later (some (λ (r : RefT (List ℕ)). ((‵ (flft κ q) ⊛ ‵ ftrue) ⊛ ‵ (ShrSlice (named 0) κ u8 .own r (u ∷ []))) ⊛ raw
+            (ensured 𝓤 H A step.ended (step.clauses 𝓤 H A mem run) (κ, tt) (d .reply, (t, tt)) tt r)))) (id⊢ 𝓤 _) $ await ! tt $ pick ! (λ r.
         split ! $ move ! (1 ∷ []) $ use1 W (raw (fact 𝓤 (now r ≡ found))) (said r) $ heard ! (now r ≡ found) (λ e. split ! $ move ! (1 ∷ []) $
         -- [the result; the token; what the struct owns; _3; …; _2; …; _1; …; room for _0; …]
         peeks ! (ShrSlice (named 0) κ u8) (Is (ShrSlice (named 0) κ u8)) (shows 𝓤 H A (ShrSlice (named 0) κ u8)) r (u ∷ []) (λ is₂.
@@ -146,13 +150,17 @@ module _ {M : Type 1} (𝓤 : URA M) (H : Heap 𝓤) (A : Atoms 𝓤) (W : Given
 module _ {M : Type 1} (𝓤 : URA M) (H : Heap 𝓤) (A : Atoms 𝓤) (W : Given 𝓤 H A) (mem : Memory → SProp 𝓤) (run : Routine → Fun 𝓤) where
   text-walks : (C : Calls 𝓤 H) (Λ : Loops 𝓤 H) → FmC 𝓤 H (W .laws) C → Triple 𝓤 (C #reply-lines·step-text) (StepText 𝓤 H A mem run)
       → Walks 𝓤 H A text.ended stayed (WpFn 𝓤 H C Λ code.function) (text.clauses 𝓤 H A mem run)
-  text-walks C Λ fm known = walked 𝓤 H A text.ended stayed (text.clauses 𝓤 H A mem run) (WpFn 𝓤 H C Λ code.function) (λ κs. (LL.vals (T.the-type (namedLft 1 0 tt κs)) (T′.the-laws (namedLft 1 0 tt κs)), (EL.vals S.the-type S′.the-laws, tt))) (λ κs. (LL.tells (T.the-type (namedLft 1 0 tt κs)) (T′.the-laws (namedLft 1 0 tt κs)), (EL.tells S.the-type S′.the-laws, tt)))
-      (λ κs qs bounds a g are. via 𝓤 _ (fst∗ 𝓤 _ (emp 𝓤)) (walk 𝓤 H A W mem run (κs .0) (qs .0) (a .0) (a .1 .0) (EL.val S.the-type S′.the-laws (a .1 .0)) C Λ fm known (LL.lawful (T.the-type (namedLft 1 0 tt κs)) (T′.the-laws (namedLft 1 0 tt κs)) 𝓤 H A W .typed (a .0) _ (are .0) .0) (are .1 .0)))
+  text-walks C Λ fm known = walked 𝓤 H A text.ended stayed (text.clauses 𝓤 H A mem run) (WpFn 𝓤 H C Λ code.function)
+      (λ κs. (LL.vals (T.the-type (namedLft 1 0 tt κs)) (T′.the-laws (namedLft 1 0 tt κs)), (EL.vals S.the-type S′.the-laws, tt)))
+      (λ κs. (LL.tells (T.the-type (namedLft 1 0 tt κs)) (T′.the-laws (namedLft 1 0 tt κs)), (EL.tells S.the-type S′.the-laws, tt)))
+      (λ κs qs bounds a g are. via 𝓤 _ (fst∗ 𝓤 _ (emp 𝓤)) (walk 𝓤 H A W mem run (κs .0) (qs .0) (a .0) (a .1 .0) (EL.val S.the-type S′.the-laws (a .1 .0)) C Λ fm known
+          (LL.lawful (T.the-type (namedLft 1 0 tt κs)) (T′.the-laws (namedLft 1 0 tt κs)) 𝓤 H A W .typed (a .0) _ (are .0) .0) (are .1 .0)))
 
 text-meets : {M : Type 1} (𝓤 : URA M) (H : Heap 𝓤) (A : Atoms 𝓤) (W : Given 𝓤 H A) (mem : Memory → SProp 𝓤) (run : Routine → Fun 𝓤) (𝓣 : Tables 𝓤 H)
     → Triple 𝓤 (𝓣 .C #reply-lines·step-text) (StepText 𝓤 H A mem run)
     → Meets 𝓤 H A text.signature (WpFn 𝓤 H (𝓣 .C) (𝓣 .Λ) code.function) (text.spec 𝓤 H A mem run)
-text-meets 𝓤 H A W mem run 𝓣 known-step = walk-meets 𝓤 H A text.ended stayed W (goes-none 𝓤 H A W 1 B yes (λ κs x f. refl), (goes-none 𝓤 H A W 1 (λ _. S.the-row) yes (λ κs x f. refl), tt)) (text.clauses 𝓤 H A mem run) (WpFn 𝓤 H (𝓣 .C) (𝓣 .Λ) code.function) (WpFn-mono 𝓤 H (W .laws) 𝓣 code.function)
+text-meets 𝓤 H A W mem run 𝓣 known-step = walk-meets 𝓤 H A text.ended stayed W (goes-none 𝓤 H A W 1 B yes (λ κs x f. refl), (goes-none 𝓤 H A W 1 (λ _. S.the-row) yes (λ κs x f. refl), tt))
+    (text.clauses 𝓤 H A mem run) (WpFn 𝓤 H (𝓣 .C) (𝓣 .Λ) code.function) (WpFn-mono 𝓤 H (W .laws) 𝓣 code.function)
     (text-walks 𝓤 H A W mem run (𝓣 .C) (𝓣 .Λ) (fmOf 𝓤 H (W .laws) 𝓣) known-step)
 
 pub text-spec : {M : Type 1} → stated.statement M
