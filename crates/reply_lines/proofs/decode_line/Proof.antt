@@ -76,7 +76,7 @@ returns-3 c =
     let at-if1 = at-read-head .before in
     let start = at-if1 .before .before .before in
     rw (not-false (start .args .framing) (at-if1 .if1 .left), head-framed _ _ (at-read-head .read-head .ensures) (at-if2 .if2 .left))
-        (record { ecu = c .ecu-of .ensures; bytes = at-put-pairs2 .put-pairs2 .ensures })
+    (record { ecu = c .ecu-of .ensures; bytes = at-put-pairs2 .put-pairs2 .ensures })
 
 pub decode-line-spec : {M : Type 1} → statement M
 decode-line-spec =

@@ -21,8 +21,10 @@ add-result : tie.Need-add-result
 add-result c =
     let at-hex-id = c .before .before .before in
     let start = at-hex-id .before in
-    record { fits = let k = below-at 4096 (number-small (start .args .a ∷ start .args .b ∷ start .args .c ∷ []))
-        (sym (at-hex-id .hex-id .ensures) ∙ ap hexOf (c .before .id .given .1)) in omega arith }
+    record {
+      fits = let k = below-at 4096 (number-small (start .args .a ∷ start .args .b ∷ start .args .c ∷ []))
+          (sym (at-hex-id .hex-id .ensures) ∙ ap hexOf (c .before .id .given .1)) in omega arith;
+    }
 
 enum-told : tie.Need-enum-told
 enum-told c = search needs

@@ -110,7 +110,7 @@ module _ {M : Type 1} (𝓤 : URA M) (H : Heap 𝓤) (A : Atoms 𝓤) (W : Given
   unfolding partOf
   lies-out =
       qed W (‵ (mem (B κ) .lies h l 0) ∷ []) ∵ fpick ! (λ vs. fsplit ! $ spelt ! (B κ) (Is (B κ)) (shows 𝓤 H A (B κ)) (LL.vals (T.the-type (α κ)) (T′.the-laws (α κ)))
-          (LL.tells (T.the-type (α κ)) (T′.the-laws (α κ))) fullShare h vs l 0 $
+      (LL.tells (T.the-type (α κ)) (T′.the-laws (α κ))) fullShare h vs l 0 $
       use1 W (‵ (fat fullShare (T′.mir erased) l 0 (T′.lowered h))) (W .laws .raw-at fullShare (T′.mir erased) l 0 (T′.lowered h)) $ frame ! $ done !)
 
 module _ {M : Type 1} (𝓤 : URA M) (H : Heap 𝓤) (A : Atoms 𝓤) (W : Given 𝓤 H A) (at-mem : Memory → SProp 𝓤) (run : Routine → Fun 𝓤) (κ : Lft) (q : Share) (s : RefT (List ℕ)) where
@@ -143,7 +143,7 @@ module _ {M : Type 1} (𝓤 : URA M) (H : Heap 𝓤) (A : Atoms 𝓤) (W : Given
       qed W ((‵ (flft κ q) ⊛ ‵ ftrue) ∷ ‵ (owns (ShrSlice (named 0) κ u8 ∷ []) (s, tt) (v ∷ [], tt)) ∷ []) ∵
       move ! (1 ∷ []) $ fsplit ! $ use1 W (‵ Own ⊛ ‵ Own) (shr-slice-copy 𝓤 H A W (named 0) κ u8 .twice s (v ∷ [])) $ split ! $
       move ! (0 ∷ 2 ∷ []) $ fjoin ! $ move ! (2 ∷ 0 ∷ []) $ use2 W (raw (New 𝓤 H A at-mem run .pre to-new))
-          (qed W ((‵ (flft κ q) ⊛ ‵ ftrue) ∷ ‵ (owns (ShrSlice (named 0) κ u8 ∷ []) (s, tt) (v ∷ [], tt)) ∷ []) ∵ join ! $ frame ! $ done !) $ frame ! $ done !
+      (qed W ((‵ (flft κ q) ⊛ ‵ ftrue) ∷ ‵ (owns (ShrSlice (named 0) κ u8 ∷ []) (s, tt) (v ∷ [], tt)) ∷ []) ∵ join ! $ frame ! $ done !) $ frame ! $ done !
 
   abbrev Made : LineReader → Type 0
   Made r = (r .reply ≡ s) × (r .at ≡ 0)
@@ -203,12 +203,12 @@ module _ {M : Type 1} (𝓤 : URA M) (H : Heap 𝓤) (A : Atoms 𝓤) (W : Given
     walk p =
         qed W (raw (onEntry 𝓤 H A first.signature (κ, tt) (q, tt) (s, tt) (v ∷ [], tt)) ∷ []) ∵ enter ! C Λ code.function (v ∷ []) _ $
         alloc1 ! (λ l₀. alloc1 ! (λ l₁. alloc1 ! (λ l₂. alloc1 ! (λ l₃. alloc1 !
-            (λ l₄. alloc1 ! (λ l₅. alloc0 ! $ params1 ! $ pass1 ! (init ! 8 refl (shr-slice-lawful 𝓤 H A W (named 0) κ u8 .typed s (v ∷ []) p .0)) $ pass0 ! $
+        (λ l₄. alloc1 ! (λ l₅. alloc0 ! $ params1 ! $ pass1 ! (init ! 8 refl (shr-slice-lawful 𝓤 H A W (named 0) κ u8 .typed s (v ∷ []) p .0)) $ pass0 ! $
         move ! (12 ∷ []) $ use1 W (raw (New 𝓤 H A at-mem run .pre to-new) ⊛ ‵ Own) goes-new $ split ! $
         -- [what the call asks; what s owns; _5; …; _4; …; _3; …; _2; …; _1; …; _0; …]
         calls-at ! fm (New 𝓤 H A at-mem run) known-new to-new (and-then ! (load ! (from ! (stop !)) (look ! 10 refl)) (no-more !)) (λ u.
         use1 W (later (some (λ (r : LineReader). ((‵ (flft κ q) ⊛ ‵ ftrue) ⊛ ‵ (B κ .own r (u ∷ []))) ⊛ raw (ensured 𝓤 H A new.ended (new.clauses 𝓤 H A at-mem run) (κ, tt) (s, tt) tt r))))
-            (id⊢ 𝓤 _) $ await ! tt $ pick ! (λ r.
+        (id⊢ 𝓤 _) $ await ! tt $ pick ! (λ r.
         split ! $ move ! (1 ∷ []) $ use1 W (raw (fact 𝓤 (Made r))) (new-said r) $ heard ! (Made r) (λ e₁. split ! $ move ! (1 ∷ []) $
         -- [what the reader owns; the token; what s owns; _5; …; _4; …; _3; …; _2; …; _1; …; _0; …]
         peeks ! (B κ) (Is (B κ)) (shows 𝓤 H A (B κ)) r (u ∷ []) (λ is.
@@ -222,16 +222,16 @@ module _ {M : Type 1} (𝓤 : URA M) (H : Heap 𝓤) (A : Atoms 𝓤) (W : Given
         move ! (3 ∷ 0 ∷ []) $ use2 W (‵ (flft (ν ∷ κ) ql) ⊛ raw (Rest 𝓤 H A W ν ql)) (within-token 𝓤 H A W ν κ ql) $ split ! $
         -- [the token of ν ∷ κ; the way back; the other half; true; the reader; what s owns; _5; …]
         move ! (4 ∷ []) $ use1 W (later (some (λ (γ : GName). ‵ (Lent ν l₂ γ r) ⊛ ‵ (flent (ν ∷ κ) (Body (mem (B κ)) l₂ 0 γ))))) (lends-ref 𝓤 H A W (B κ) (named 0) (ν ∷ κ) r l₂ 0) $
-            await ! tt $ pick ! (λ γ. split ! $
+        await ! tt $ pick ! (λ γ. split ! $
         -- [what is lent; the lender's part; the token of ν ∷ κ; the way back; the other half; true; what s owns; _5; …]
         move ! (4 ∷ 5 ∷ []) $ join ! $ move ! (3 ∷ 0 ∷ 1 ∷ []) $ join ! $ use2 W (raw (Next 𝓤 H A at-mem run .pre (to-next ν l₂ γ r))) (goes-next ν l₂ γ r) $
         -- [what the call asks; the lender's part; the way back; what s owns; _5; …; _4; …; _3; …; _2's end; _1; …; _0; …]
         calls-at ! fm (Next 𝓤 H A at-mem run) known-next (to-next ν l₂ γ r) (and-then ! (load ! (from ! (stop !)) (look ! 4 refl)) (no-more !)) (λ u₂.
         use1 W (later (some (λ (t : TextStep). ((‵ (flft (ν ∷ κ) ql) ⊛ ‵ (flft κ qr) ⊛ ‵ ftrue) ⊛ ‵ (S.the-row .own t (u₂ ∷ []))) ⊛ raw
-            (ensured 𝓤 H A next.ended (next.clauses 𝓤 H A at-mem run) (ν ∷ κ, (κ, tt)) (lent l₂ γ r, tt) tt t)))) (id⊢ 𝓤 _) $ await ! tt $ pick ! (λ t.
+        (ensured 𝓤 H A next.ended (next.clauses 𝓤 H A at-mem run) (ν ∷ κ, (κ, tt)) (lent l₂ γ r, tt) tt t)))) (id⊢ 𝓤 _) $ await ! tt $ pick ! (λ t.
         -- what the callee ensures, at some last value of the reader
         split ! $ move ! (1 ∷ []) $ use1 W (some (λ (ws : LineReader × Unit {0}). ‵ (lasts next.ended (ν ∷ κ, (κ, tt)) (lent l₂ γ r, tt) ws) ⊛ raw (fact 𝓤 (Stepped r t (ws .0))))) (id⊢ 𝓤 _) $
-            pick ! (λ ws.
+        pick ! (λ ws.
         split ! $ move ! (1 ∷ []) $ heard ! (Stepped r t (ws .0)) (λ e₂. fsplit ! $
         -- [the last value; …; the tokens and the step; the lender's part; the way back; what s owns; _5; …]
         move ! (2 ∷ []) $ split ! $ move ! (1 ∷ []) $ peeks ! S.the-row (Is S.the-row) (shows 𝓤 H A S.the-row) t (u₂ ∷ []) (λ is₂.
@@ -249,17 +249,17 @@ module _ {M : Type 1} (𝓤 : URA M) (H : Heap 𝓤) (A : Atoms 𝓤) (W : Given
         use2 W (raw (Text 𝓤 H A at-mem run .pre (to-text (ws .0) t u₂))) (goes-text (ws .0) t u₂ is₂) $
         -- [what the call asks; _2; …; what s owns; _5; …; _4; …; _3; …]
         calls-at ! fm (Text 𝓤 H A at-mem run) known-text (to-text (ws .0) t u₂)
-            (and-then ! (load ! (from ! (stop !)) (look ! 6 refl)) (and-then ! (load ! (from ! (stop !)) (look ! 8 refl)) (no-more !))) (λ u₃.
+        (and-then ! (load ! (from ! (stop !)) (look ! 6 refl)) (and-then ! (load ! (from ! (stop !)) (look ! 8 refl)) (no-more !))) (λ u₃.
         use1 W (later (some (λ (a : RefT (List ℕ)). ((‵ (flft κ q) ⊛ ‵ ftrue) ⊛ ‵ (ShrSlice (named 0) κ u8 .own a (u₃ ∷ []))) ⊛ raw
-            (ensured 𝓤 H A text.ended (text.clauses 𝓤 H A at-mem run) (κ, tt) (ws .0, (t, tt)) tt a)))) (id⊢ 𝓤 _) $ await ! tt $ pick ! (λ a.
+        (ensured 𝓤 H A text.ended (text.clauses 𝓤 H A at-mem run) (κ, tt) (ws .0, (t, tt)) tt a)))) (id⊢ 𝓤 _) $ await ! tt $ pick ! (λ a.
         split ! $ move ! (1 ∷ []) $ use1 W (raw (fact 𝓤 (now a ≡ stepText (now (ws .0 .reply)) (textStep t)))) (text-said (ws .0) t a) $ heard !
-            (now a ≡ stepText (now (ws .0 .reply)) (textStep t)) (λ e₃. split ! $ move ! (1 ∷ []) $
+        (now a ≡ stepText (now (ws .0 .reply)) (textStep t)) (λ e₃. split ! $ move ! (1 ∷ []) $
         -- [the result; the token; _2; …; what s owns; _5; …; _4; …; _3; …; _2's end; _1; …; _0; …]
         peeks ! (ShrSlice (named 0) κ u8) (Is (ShrSlice (named 0) κ u8)) (shows 𝓤 H A (ShrSlice (named 0) κ u8)) a (u₃ ∷ []) (λ is₄.
         land ! (from ! (stop !)) (init ! 14 refl (shr-slice-lawful 𝓤 H A W (named 0) κ u8 .typed a _ is₄ .0)) $
         returns ! (look ! 14 refl) $ forget ! 2 refl $ forget ! 5 refl $ forget ! 7 refl $ forget ! 9 refl $ forget ! 12 refl $ forget ! 14 refl $
         move ! (14 ∷ 15 ∷ []) $ free1 ! $ move ! (12 ∷ 13 ∷ []) $ free1 ! $ move ! (2 ∷ 11 ∷ []) $ free1 ! $ move ! (8 ∷ 9 ∷ []) $ free1 ! $ move ! (6 ∷ 7 ∷ []) $ free1 ! $ move !
-            (4 ∷ 5 ∷ []) $ free1 ! $ free0 ! $
+        (4 ∷ 5 ∷ []) $ free1 ! $ free0 ! $
         keep ! (0 ∷ 1 ∷ 3 ∷ []) $ by ! (exits a u₃ (together r (ws .0) t a e₁ e₂ e₃))))))))))))))))))))))))
 
 module _ {M : Type 1} (𝓤 : URA M) (H : Heap 𝓤) (A : Atoms 𝓤) (W : Given 𝓤 H A) (at-mem : Memory → SProp 𝓤) (run : Routine → Fun 𝓤) where
@@ -272,7 +272,7 @@ module _ {M : Type 1} (𝓤 : URA M) (H : Heap 𝓤) (A : Atoms 𝓤) (W : Given
 
 first-meets : {M : Type 1} (𝓤 : URA M) (H : Heap 𝓤) (A : Atoms 𝓤) (W : Given 𝓤 H A) (at-mem : Memory → SProp 𝓤) (run : Routine → Fun 𝓤) (𝓣 : Tables 𝓤 H)
     → Triple 𝓤 (𝓣 .C #reply-lines·LineReader·new) (New 𝓤 H A at-mem run) → Triple 𝓤 (𝓣 .C #reply-lines·LineReader·next-line) (Next 𝓤 H A at-mem run) → Triple 𝓤
-        (𝓣 .C #reply-lines·LineReader·text) (Text 𝓤 H A at-mem run)
+    (𝓣 .C #reply-lines·LineReader·text) (Text 𝓤 H A at-mem run)
     → Meets 𝓤 H A first.signature (WpFn 𝓤 H (𝓣 .C) (𝓣 .Λ) code.function) (first.spec 𝓤 H A at-mem run)
 first-meets 𝓤 H A W at-mem run 𝓣 known-new known-next known-text = walk-meets 𝓤 H A first.ended stayed W (goes-none-slice 𝓤 H A W 1 (0 ∷ []) tt (plain (λ _. u8)) yes, tt)
     (first.clauses 𝓤 H A at-mem run) (WpFn 𝓤 H (𝓣 .C) (𝓣 .Λ) code.function) (WpFn-mono 𝓤 H (W .laws) 𝓣 code.function)

@@ -55,8 +55,14 @@ add-t16 c =
     let at-past-cr = at-trim-start .before .before in
     let at-find-cr = at-past-cr .before in
     let at-loop-test = at-find-cr .before in
-    record { fits = omega (arith, end-fits _ _ _ (at-loop-test .loop-test .taken) (at-find-cr .find-cr .ensures) _ (at-past-cr .past-cr .ensures) _ (at-trim-start .trim-start .ensures) _
-        (at-trim-end .trim-end .ensures), cr-inside _ _ _ (at-loop-test .loop-test .taken) (at-find-cr .find-cr .ensures)) }
+    record {
+      fits = omega (
+        arith,
+        end-fits _ _ _ (at-loop-test .loop-test .taken) (at-find-cr .find-cr .ensures) _ (at-past-cr .past-cr .ensures) _ (at-trim-start .trim-start .ensures) _
+            (at-trim-end .trim-end .ensures),
+        cr-inside _ _ _ (at-loop-test .loop-test .taken) (at-find-cr .find-cr .ensures),
+      );
+    }
 
 returns : tie.Need-returns Inv-loop μ-loop
 returns c =
@@ -67,7 +73,7 @@ returns c =
     let at-loop-test = at-find-cr .before in
     let at-loop = at-loop-test .before in
     sym (from-line _ _ _ (at-loop-test .loop-test .taken) (at-find-cr .find-cr .ensures) _ (at-past-cr .past-cr .ensures) _ (at-trim-start .trim-start .ensures) _
-        (at-trim-end .trim-end .ensures) (sym (c .before .stays .ensures) ∙ c .if1 .taken)) ∙ at-loop .loop .inv
+    (at-trim-end .trim-end .ensures) (sym (c .before .stays .ensures) ∙ c .if1 .taken)) ∙ at-loop .loop .inv
 
 loop-less : tie.Need-loop-less Inv-loop μ-loop
 loop-less c =
@@ -85,7 +91,7 @@ loop-again c =
     let at-loop-test = at-find-cr .before in
     let at-loop = at-loop-test .before in
     sym (from-skip _ _ _ (at-loop-test .loop-test .taken) (at-find-cr .find-cr .ensures) _ (at-past-cr .past-cr .ensures) _ (at-trim-start .trim-start .ensures) _
-        (at-trim-end .trim-end .ensures) (sym (c .before .stays .ensures) ∙ c .if1 .left)) ∙ at-loop .loop .inv
+    (at-trim-end .trim-end .ensures) (sym (c .before .stays .ensures) ∙ c .if1 .left)) ∙ at-loop .loop .inv
 
 returns-2 : tie.Need-returns-2 Inv-loop μ-loop
 returns-2 c = sym (from-end _ _ (c .loop-test .left)) ∙ c .before .loop .inv

@@ -16,7 +16,7 @@ use Rattle.reply_lines.proofs.put_pairs.Tie as tie
 abbrev Inv-loop : tie.InvT-loop
 Inv-loop out₀ text at len₀ i₀ out len i =
     (i ≤ length text) × (length out ≡ length out₀) × Put out len (pairBytes (unspaced (drop i text))) (0 + min (length (pairBytes (unspaced (drop at text)))) (length out₀ - 0))
-        (sets out₀ 0 (pairBytes (unspaced (drop at text))))
+    (sets out₀ 0 (pairBytes (unspaced (drop at text))))
 
 abbrev μ-loop : tie.MeasureT-loop
 μ-loop out₀ text at len₀ i₀ out len i = length text - i
@@ -52,7 +52,7 @@ returns-2 c =
     let at-next-char = at-if1 .before in
     let at-loop = at-next-char .before .before in
     let q = pairs-odd _ _ (at-loop .loop .inv .2) _ (at-next-char .next-char .ensures) (at-if1 .if1 .left) _ (c .before .next-char2 .ensures)
-        (c .if2 .taken) in record { next = sym (q .0); bytes = sym (q .1) }
+    (c .if2 .taken) in record { next = sym (q .0); bytes = sym (q .1) }
 
 shared-slice-read-put-pair : tie.Need-shared-slice-read-put-pair Inv-loop μ-loop
 shared-slice-read-put-pair c = search needs
@@ -80,9 +80,12 @@ loop-again c =
     let at-next-char2 = at-if2 .before in
     let at-if1 = at-next-char2 .before in
     let at-next-char = at-if1 .before in
-    let at-loop = at-next-char .before .before in
-    (omega (arith, at-if2 .if2 .left), put-length (at-put-pair .put-pair .ensures) ∙ at-loop .loop .inv .1, pairs-step _ _ (at-loop .loop .inv .2) _ (at-next-char .next-char .ensures)
-        (at-if1 .if1 .left) _ (at-next-char2 .next-char2 .ensures) (at-if2 .if2 .left) (at-put-pair .put-pair .ensures))
+    let at-loop = at-next-char .before .before in (
+      omega (arith, at-if2 .if2 .left),
+      put-length (at-put-pair .put-pair .ensures) ∙ at-loop .loop .inv .1,
+      pairs-step _ _ (at-loop .loop .inv .2) _ (at-next-char .next-char .ensures)
+          (at-if1 .if1 .left) _ (at-next-char2 .next-char2 .ensures) (at-if2 .if2 .left) (at-put-pair .put-pair .ensures),
+    )
 
 same-length-3 : tie.Need-same-length-3 Inv-loop μ-loop
 same-length-3 c = c .before .loop .inv .1

@@ -28,8 +28,13 @@ next-char-requires c κs = search needs
 returns : tie.Need-returns Inv-loop μ-loop
 returns c =
     let at-loop = c .before .before .before in
-    record { whole = at-loop .loop .inv .2 ∙ ap (λ l. take (at-loop .loop .len) (at-loop .loop .chars) ++ l)
-        (sym (c .before .next-char .ensures .reads)); five = at-loop .loop .inv .1; short = λ _. unspaced-end _ _ (c .if1 .taken); inside = c .before .next-char .ensures .inside }
+    record {
+      whole = at-loop .loop .inv .2 ∙ ap (λ l. take (at-loop .loop .len) (at-loop .loop .chars) ++ l)
+          (sym (c .before .next-char .ensures .reads));
+      five = at-loop .loop .inv .1;
+      short = λ _. unspaced-end _ _ (c .if1 .taken);
+      inside = c .before .next-char .ensures .inside;
+    }
 
 shared-slice-read-chars : tie.Need-shared-slice-read-chars Inv-loop μ-loop
 shared-slice-read-chars c = search needs
@@ -50,9 +55,12 @@ loop-again : tie.Need-loop-again Inv-loop μ-loop
 loop-again c =
     let at-next-char = c .before .before in
     let at-loop-test = at-next-char .before in
-    let at-loop = at-loop-test .before in
-    (omega (arith, c .before .if1 .left), length-set (at-loop .loop .chars) _ _ ∙ at-loop .loop .inv .1, head-step _ (at-loop .loop .chars) (at-loop .loop .len) _ _
-        (omega (arith, at-loop .loop .inv .1, at-loop-test .loop-test .taken)) (at-loop .loop .inv .2) (at-next-char .next-char .ensures) (c .before .if1 .left))
+    let at-loop = at-loop-test .before in (
+      omega (arith, c .before .if1 .left),
+      length-set (at-loop .loop .chars) _ _ ∙ at-loop .loop .inv .1,
+      head-step _ (at-loop .loop .chars) (at-loop .loop .len) _ _
+          (omega (arith, at-loop .loop .inv .1, at-loop-test .loop-test .taken)) (at-loop .loop .inv .2) (at-next-char .next-char .ensures) (c .before .if1 .left),
+    )
 
 returns-2 : tie.Need-returns-2 Inv-loop μ-loop
 returns-2 c = record { whole = c .before .loop .inv .2; five = c .before .loop .inv .1; short = λ h. absurd (omega (arith, c .loop-test .left)); inside = c .before .loop .inv .0 }

@@ -41,7 +41,7 @@ returns c =
     let at-loop = at-loop-test .before in
     let start = at-loop .before .before in
     part-all (start .args .s .now) (at-loop .loop .i) ∙ sym (start-stop _ _ (at-loop-test .loop-test .taken) (sym (at-is-space .is-space .ensures) ∙ not-true _ (c .before .if1 .taken)))
-        ∙ at-loop .loop .inv .1
+    ∙ at-loop .loop .inv .1
 
 add-i : tie.Need-add-i Inv-loop μ-loop
 add-i c = search needs

@@ -119,9 +119,9 @@ module _ {M : Type 1} (𝓤 : URA M) (H : Heap 𝓤) (A : Atoms 𝓤) (W : Given
   slice-of =
       qed W (‵ OwnH ∷ []) ∵ use1 W (‵ OwnH ⊛ ‵ OwnH) (LL.copy (T.the-type (α κ′)) (T′.the-copy (α κ′)) 𝓤 H A W .twice h (T′.lowered h ∷ [])) $ split ! $
       use1 W (given (T′.lowered h ∷ [] ≡ T′.lowered h ∷ []) (‵ (all-own (T.the-type (α κ′) .parts) (T′.the-laws (α κ′)) (h .reply, (h .at, tt)))))
-          (own-open 𝓤 H A W (T.the-type (α κ′)) (T′.the-laws (α κ′)) (h .reply, (h .at, tt)) (T′.lowered h)) $ learn ! (λ _.
+      (own-open 𝓤 H A W (T.the-type (α κ′)) (T′.the-laws (α κ′)) (h .reply, (h .at, tt)) (T′.lowered h)) $ learn ! (λ _.
       use1 W (‵ (ownAt (T.the-type (α κ′) .parts) (T′.the-laws (α κ′)) 0 (h .reply)) ⊛ ‵ (rest (T.the-type (α κ′) .parts) (T′.the-laws (α κ′)) 0 (h .reply, (h .at, tt))))
-          (own-out 𝓤 H A W (T.the-type (α κ′) .parts) (T′.the-laws (α κ′)) 0 (h .reply, (h .at, tt))) $ split ! $
+      (own-out 𝓤 H A W (T.the-type (α κ′) .parts) (T′.the-laws (α κ′)) 0 (h .reply, (h .at, tt))) $ split ! $
       -- [what reply owns; what at owns; what the struct owns]
       keep ! (2 ∷ 0 ∷ []) $ frame ! $ done !)
 
@@ -162,7 +162,7 @@ module _ {M : Type 1} (𝓤 : URA M) (H : Heap 𝓤) (A : Atoms 𝓤) (W : Given
   exits r t u is e₁ e₂ =
       qed W (‵ (fobs γ (B κ′ .coded .code (h′ r))) ∷ ‵ (fbor κ (Body (mem (B κ′)) b o γ)) ∷ ‵ (flft κ q) ∷ (‵ (flft κ′ q′) ⊛ ‵ ftrue) ∷ []) ∵
       suffices ! _ (ends-at 𝓤 H A next-line.ended stayed (next-line.clauses 𝓤 H A at-mem run) W (((κ, (κ′, tt)), (q, (q′, tt)), bounds, x, at), tt) u t (h′ r, tt) (tt, tt)) $ says !
-          (e₁, refl, e₂ ∙ ap (pastStep (h .at)) e₁) $
+      (e₁, refl, e₂ ∙ ap (pastStep (h .at)) e₁) $
       move ! (2 ∷ 3 ∷ []) $ join ! $ frame ! $ feqI ! (List Val) (vptr b o ∷ []) (vptr b o ∷ []) refl $ fjoin3 ! $ nothing ! $ move ! (1 ∷ 0 ∷ []) $ fjoin ! $ frame ! $
       owned ! S.the-row (Is S.the-row) (EL.makes S.the-type S′.the-plain 𝓤 H A) t _ is $ done !
 
@@ -179,7 +179,7 @@ module _ {M : Type 1} (𝓤 : URA M) (H : Heap 𝓤) (A : Atoms 𝓤) (W : Given
         -- the outer borrow is opened, and the cell is had at its type
         move ! (13 ∷ []) $ fsplit ! $ fsplit3 ! $ drop ! $ move ! (15 ∷ []) $ split ! $ move ! (2 ∷ 3 ∷ 0 ∷ []) $
         opens ! tt (B κ′) {h = h} b o (λ vs. spelt ! (B κ′) (Is (B κ′)) (shows 𝓤 H A (B κ′)) (LL.vals (T.the-type (α κ′)) (T′.the-laws (α κ′)))
-            (LL.tells (T.the-type (α κ′)) (T′.the-laws (α κ′))) fullShare h vs b o $
+        (LL.tells (T.the-type (α κ′)) (T′.the-laws (α κ′))) fullShare h vs b o $
         use1 W (‵ (fat fullShare (T′.mir erased) b o (T′.lowered h))) (W .laws .raw-at fullShare (T′.mir erased) b o (T′.lowered h)) $
         move ! (1 ∷ []) $ peeks ! (B κ′) (Is (B κ′)) (shows 𝓤 H A (B κ′)) h (T′.lowered h ∷ []) (λ was. move ! (1 ∷ 0 ∷ []) $
         -- [the struct's cell; what it owns; the open borrow; obs; auth; 'a's token; true; _5; …; _4; …; _3; …; _2; …; _1; …; _0; …]
@@ -190,18 +190,18 @@ module _ {M : Type 1} (𝓤 : URA M) (H : Heap 𝓤) (A : Atoms 𝓤) (W : Given
         move ! (6 ∷ 1 ∷ []) $ use2 W (raw (LineFrom 𝓤 H A at-mem run .pre to-line-from)) (goes-line-from (facts was .1 .1 .0 .fits)) $
         -- [what the call asks; what it owns; the struct's cell; the open borrow; obs; auth; true; _5; …; _4; …; _3; …; _2; …]
         calls-at ! fm (LineFrom 𝓤 H A at-mem run) known-line-from to-line-from
-            (and-then ! (load ! (from ! (stop !)) (look ! 13 refl)) (and-then ! (load ! (from ! (stop !)) (look ! 11 refl)) (no-more !))) (λ u.
+        (and-then ! (load ! (from ! (stop !)) (look ! 13 refl)) (and-then ! (load ! (from ! (stop !)) (look ! 11 refl)) (no-more !))) (λ u.
         use1 W (later (some (λ (t : TextStep). ((‵ (flft κ′ q′) ⊛ ‵ ftrue) ⊛ ‵ (S.the-row .own t (u ∷ []))) ⊛ raw
-            (ensured 𝓤 H A line-from.ended (line-from.clauses 𝓤 H A at-mem run) (κ′, tt) (h .reply, (h .at, tt)) tt t)))) (id⊢ 𝓤 _) $ await ! tt $ pick ! (λ t.
+        (ensured 𝓤 H A line-from.ended (line-from.clauses 𝓤 H A at-mem run) (κ′, tt) (h .reply, (h .at, tt)) tt t)))) (id⊢ 𝓤 _) $ await ! tt $ pick ! (λ t.
         split ! $ move ! (1 ∷ []) $ use1 W (raw (fact 𝓤 (textStep t ≡ found))) (line-from-said t) $ heard ! (textStep t ≡ found) (λ e₁. split ! $ move ! (1 ∷ []) $
         -- [the step; 'a's token; what it owns; the struct's cell; the open borrow; obs; auth; true; _5; …; _4; …; _3; …; _2; …; _1; …; _0; …]
         peeks ! S.the-row (Is S.the-row) (shows 𝓤 H A S.the-row) t (u ∷ []) (λ is.
         land ! (from ! (stop !)) (init ! 10 refl (EL.lawful S.the-type S′.the-laws 𝓤 H A W tt .typed t _ is .0)) $
         use1 W (raw (PastStep 𝓤 H A at-mem run .pre (to-past-step t u))) (goes-past-step t u (facts was .1 .1 .0 .fits)) $
         calls-at ! fm (PastStep 𝓤 H A at-mem run) known-past-step (to-past-step t u)
-            (and-then ! (load ! (from ! (stop !)) (look ! 12 refl)) (and-then ! (load ! (from ! (stop !)) (look ! 10 refl)) (no-more !))) (λ u₂.
+        (and-then ! (load ! (from ! (stop !)) (look ! 12 refl)) (and-then ! (load ! (from ! (stop !)) (look ! 10 refl)) (no-more !))) (λ u₂.
         use1 W (later (some (λ (r : ℕ). (‵ ftrue ⊛ ‵ (usize .own r (u₂ ∷ []))) ⊛ raw (ensured 𝓤 H A past-step.ended (past-step.clauses 𝓤 H A at-mem run) tt (h .at, (t, tt)) tt r))))
-            (id⊢ 𝓤 _) $ await ! tt $ pick ! (λ r.
+        (id⊢ 𝓤 _) $ await ! tt $ pick ! (λ r.
         split ! $ move ! (1 ∷ []) $ use1 W (raw (fact 𝓤 (r ≡ pastStep (h .at) (textStep t)))) (past-step-said t r) $ heard ! (r ≡ pastStep (h .at) (textStep t)) (λ e₂. split ! $ drop ! $
         -- [the number; 'a's token; what it owns; the struct's cell; the open borrow; obs; auth; true; _5; …; _4; …; _3; …; _2; …; _1; …; _0; …]
         peeks ! usize (Is usize) (shows 𝓤 H A usize) r (u₂ ∷ []) (λ is₂.
@@ -215,7 +215,7 @@ module _ {M : Type 1} (𝓤 : URA M) (H : Heap 𝓤) (A : Atoms 𝓤) (W : Given
         -- [obs; the borrow; the token; 'a's token; true; _5; …; _4; …; _3; …; _2; …; _1; …; _0; …]
         returns ! (look ! 15 refl) $ forget ! 5 refl $ forget ! 7 refl $ forget ! 9 refl $ forget ! 11 refl $ forget ! 13 refl $ forget ! 15 refl $
         move ! (15 ∷ 16 ∷ []) $ free1 ! $ move ! (13 ∷ 14 ∷ []) $ free1 ! $ move ! (11 ∷ 12 ∷ []) $ free1 ! $ move ! (9 ∷ 10 ∷ []) $ free1 ! $ move ! (7 ∷ 8 ∷ []) $ free1 ! $ move !
-            (5 ∷ 6 ∷ []) $ free1 ! $ free0 ! $
+        (5 ∷ 6 ∷ []) $ free1 ! $ free0 ! $
         keep ! (0 ∷ 1 ∷ 2 ∷ 3 ∷ []) $ by ! (exits r t u is e₁ e₂)))))))))))))))))
 
 module _ {M : Type 1} (𝓤 : URA M) (H : Heap 𝓤) (A : Atoms 𝓤) (W : Given 𝓤 H A) (at-mem : Memory → SProp 𝓤) (run : Routine → Fun 𝓤) where
@@ -225,7 +225,7 @@ module _ {M : Type 1} (𝓤 : URA M) (H : Heap 𝓤) (A : Atoms 𝓤) (W : Given
   next-line-walks C Λ fm known-past-step known-line-from = walked 𝓤 H A next-line.ended stayed (next-line.clauses 𝓤 H A at-mem run) (WpFn 𝓤 H C Λ code.function) (λ κs. (ptr-vals, tt))
       (λ κs. (mut-tells (named 0) (κs .0) (B (κs .1 .0)), tt))
       (λ κs qs bounds a _ are. via 𝓤 _ (fst∗ 𝓤 _ (emp 𝓤)) (walk 𝓤 H A W at-mem run (κs .0) (κs .1 .0) (qs .0) (qs .1 .0) bounds (a .0 .ptr .0) (a .0 .ptr .1) (a .0 .name)
-          (a .0 .now) C Λ fm known-past-step known-line-from))
+      (a .0 .now) C Λ fm known-past-step known-line-from))
 
 next-line-meets : {M : Type 1} (𝓤 : URA M) (H : Heap 𝓤) (A : Atoms 𝓤) (W : Given 𝓤 H A) (at-mem : Memory → SProp 𝓤) (run : Routine → Fun 𝓤) (𝓣 : Tables 𝓤 H)
     → Triple 𝓤 (𝓣 .C #reply-lines·past-step) (PastStep 𝓤 H A at-mem run) → Triple 𝓤 (𝓣 .C #reply-lines·next-line) (LineFrom 𝓤 H A at-mem run)

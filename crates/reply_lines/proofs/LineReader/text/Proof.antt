@@ -113,7 +113,7 @@ module _ {M : Type 1} (𝓤 : URA M) (H : Heap 𝓤) (A : Atoms 𝓤) (W : Given
       qed W ((‵ (flft κ q) ⊛ ‵ ftrue) ∷ ‵ (owns (B (κ, tt) ∷ S.the-row ∷ []) (d, (t, tt)) (mach ∷ [], (w ∷ [], tt))) ∷ []) ∵
       move ! (1 ∷ []) $ fsplit ! $ move ! (1 ∷ []) $ drop ! $ use1 W (‵ Own ⊛ ‵ Own) (LL.copy D (T′.the-copy (namedLft 1 0 tt (κ, tt))) 𝓤 H A W .twice d (mach ∷ [])) $ split ! $
       use1 W (given (mach ∷ [] ≡ mach ∷ []) (‵ (all-own (D .parts) L vd))) (own-open 𝓤 H A W D L vd mach) $ learn !
-          (λ _. use1 W (‵ (ownAt (D .parts) L 0 (d .reply)) ⊛ ‵ (rest (D .parts) L 0 vd)) (own-out 𝓤 H A W (D .parts) L 0 vd) $ split ! $
+      (λ _. use1 W (‵ (ownAt (D .parts) L 0 (d .reply)) ⊛ ‵ (rest (D .parts) L 0 vd)) (own-out 𝓤 H A W (D .parts) L 0 vd) $ split ! $
       -- [what reply owns; what at owns; what the struct owns; the token]
       move ! (1 ∷ []) $ drop ! $ nothing ! $ owned ! S.the-row (Is S.the-row) (EL.makes S.the-type S′.the-plain 𝓤 H A) t _ is $ fjoin ! $ move ! (1 ∷ 0 ∷ []) $ fjoin ! $
       move ! (2 ∷ 0 ∷ []) $ use2 W (raw (StepText 𝓤 H A mem run .pre to)) asked $ frame ! $ done !)
@@ -134,12 +134,12 @@ module _ {M : Type 1} (𝓤 : URA M) (H : Heap 𝓤) (A : Atoms 𝓤) (W : Given
     walk wt is =
         qed W (raw (onEntry 𝓤 H A text.signature (κ, tt) (q, tt) (d, (t, tt)) (mach ∷ [], (w ∷ [], tt))) ∷ []) ∵ enter ! C Λ code.function (mach ∷ w ∷ []) _ $
         alloc1 ! (λ l₀. alloc1 ! (λ l₁. alloc1 ! (λ l₂. alloc1 ! (λ l₃. alloc0 ! $ params1 ! $ pass1 ! (init ! 4 refl wt) $ pass1 !
-            (init ! 2 refl (EL.lawful S.the-type S′.the-laws 𝓤 H A W tt .typed t _ is .0)) $ pass0 ! $
+        (init ! 2 refl (EL.lawful S.the-type S′.the-laws 𝓤 H A W tt .typed t _ is .0)) $ pass0 ! $
         assigns ! (of-opd ! (load ! (from ! (fld ! refl (stop !))) (look-in ! 4 (sub ! 0 refl (whole !))))) (from ! (stop !)) (init ! 0 refl (tt, wt .1 .0)) $
         move ! (8 ∷ []) $ use1 W (raw (StepText 𝓤 H A mem run .pre to) ⊛ ‵ Own) (apart is) $ split ! $
         calls-at ! fm (StepText 𝓤 H A mem run) known to (and-then ! (load ! (from ! (stop !)) (look ! 2 refl)) (and-then ! (load ! (from ! (stop !)) (look ! 4 refl)) (no-more !))) (λ u.
         use1 W (later (some (λ (r : RefT (List ℕ)). ((‵ (flft κ q) ⊛ ‵ ftrue) ⊛ ‵ (ShrSlice (named 0) κ u8 .own r (u ∷ []))) ⊛ raw
-            (ensured 𝓤 H A step.ended (step.clauses 𝓤 H A mem run) (κ, tt) (d .reply, (t, tt)) tt r)))) (id⊢ 𝓤 _) $ await ! tt $ pick ! (λ r.
+        (ensured 𝓤 H A step.ended (step.clauses 𝓤 H A mem run) (κ, tt) (d .reply, (t, tt)) tt r)))) (id⊢ 𝓤 _) $ await ! tt $ pick ! (λ r.
         split ! $ move ! (1 ∷ []) $ use1 W (raw (fact 𝓤 (now r ≡ found))) (said r) $ heard ! (now r ≡ found) (λ e. split ! $ move ! (1 ∷ []) $
         -- [the result; the token; what the struct owns; _3; …; _2; …; _1; …; room for _0; …]
         peeks ! (ShrSlice (named 0) κ u8) (Is (ShrSlice (named 0) κ u8)) (shows 𝓤 H A (ShrSlice (named 0) κ u8)) r (u ∷ []) (λ is₂.
@@ -154,7 +154,7 @@ module _ {M : Type 1} (𝓤 : URA M) (H : Heap 𝓤) (A : Atoms 𝓤) (W : Given
       (λ κs. (LL.vals (T.the-type (namedLft 1 0 tt κs)) (T′.the-laws (namedLft 1 0 tt κs)), (EL.vals S.the-type S′.the-laws, tt)))
       (λ κs. (LL.tells (T.the-type (namedLft 1 0 tt κs)) (T′.the-laws (namedLft 1 0 tt κs)), (EL.tells S.the-type S′.the-laws, tt)))
       (λ κs qs bounds a g are. via 𝓤 _ (fst∗ 𝓤 _ (emp 𝓤)) (walk 𝓤 H A W mem run (κs .0) (qs .0) (a .0) (a .1 .0) (EL.val S.the-type S′.the-laws (a .1 .0)) C Λ fm known
-          (LL.lawful (T.the-type (namedLft 1 0 tt κs)) (T′.the-laws (namedLft 1 0 tt κs)) 𝓤 H A W .typed (a .0) _ (are .0) .0) (are .1 .0)))
+      (LL.lawful (T.the-type (namedLft 1 0 tt κs)) (T′.the-laws (namedLft 1 0 tt κs)) 𝓤 H A W .typed (a .0) _ (are .0) .0) (are .1 .0)))
 
 text-meets : {M : Type 1} (𝓤 : URA M) (H : Heap 𝓤) (A : Atoms 𝓤) (W : Given 𝓤 H A) (mem : Memory → SProp 𝓤) (run : Routine → Fun 𝓤) (𝓣 : Tables 𝓤 H)
     → Triple 𝓤 (𝓣 .C #reply-lines·step-text) (StepText 𝓤 H A mem run)
