@@ -21,7 +21,7 @@ use Rattle.value.specs.Values.{value}
 use Rattle.reply_values.specs.Values.{spanOf, walked, valuesOf}
 use Rattle.reply_values.specs.Learn.{shownBy, shownLengths, agreed, withLength, learnLength}
 use Rattle.reply_values.proofs.WalkLaws.{walked-nil, walked-cons}
-use Rattle.line_list.proofs.LinesLaws.{AllBytes}
+use Rattle.line_list.proofs.LineLaws.{AllBytes}
 use Rattle.agreement.specs.Lines.{PidValues, end, next, LineData, alone, table, GoodLines}
 
 -- The lengths that a session knows: the table's as they are, and of a PID outside it none or the run's.

@@ -6,20 +6,22 @@ use Prim.Native.Nat.{ℕ, zero, suc, _≤_, _<_}
 use native.Mathlib.Omega.{arith}
 use lib.ListN.{length, take, length-take}
 use lib.Seq.{sets, take-all}
+use Rattle.group.specs.Format.{Each, writeRow}
 use Rattle.wire.specs.Put.{Put}
 use Rattle.wire.specs.Text.{joined}
 use Rattle.wire.proofs.PutLaws.{put-front}
 use Rattle.wire.proofs.All.{all-from}
-use Rattle.value.specs.Values.{Value, recordBytes, readRecord}
+use Rattle.group.specs.Group.{listOf}
+use Rattle.value.specs.Values.{Value, partFormat, readRecord}
 use Rattle.value.specs.Same.{SameValues, SameQueries}
 use Rattle.value.proofs.RecordLaws.{RecordFits, record-back, same-record}
 use Rattle.reply_values.specs.Values.{answerOrder}
 use Rattle.script.specs.Script.{Query}
-use Rattle.script.specs.Written.{AllInLimits}
+use Rattle.script.specs.Script.{InLimits}
 use Rattle.script.proofs.ScriptLaws.{script-limits}
 use Rattle.bench.specs.Run.{Run, Recorded, runAnswer}
 use Rattle.agreement.specs.Vehicle.{given}
-use Rattle.agreement.specs.Demand.{givens, commands, fitting, partsIn, SameFirst, Drive, hireRecord, partsStanding, comesTo, EveryFits, Holds, Agreement}
+use Rattle.agreement.specs.Demand.{givens, commands, fitting, SameFirst, Drive, hireRecord, partsStanding, comesTo, EveryFits, Holds, Agreement}
 use Rattle.agreement.proofs.Finished.{answer-reordered}
 use Rattle.agreement.proofs.Ran.{script-ready, run-told}
 use Rattle.agreement.proofs.Told.{ordered, given-fits, told, fitting-few, told-parts, told-handed, told-inside, told-whole}
@@ -46,7 +48,7 @@ take-whole [] = refl
 take-whole (vs ∷ vss) = ap (λ wss. vs ∷ wss) (take-whole vss)
 
 -- two records, by the first n queries
-same-first : (n : ℕ) (vss wss : List (List Value)) → RecordFits vss → RecordFits wss → SameFirst n (recordBytes vss) (recordBytes wss) ↔ SameQueries (take n vss) (take n wss)
+same-first : (n : ℕ) (vss wss : List (List Value)) → RecordFits vss → RecordFits wss → SameFirst n (writeRow partFormat vss) (writeRow partFormat wss) ↔ SameQueries (take n vss) (take n wss)
 same-first n vss wss h i = rw (record-back vss h, record-back wss i) ((λ q. q), (λ q. q))
 
 -- the order of an answer does not matter
@@ -88,7 +90,7 @@ ran d =
     run-told (d .lengths) (d .repeat) (d .pieces) (length (d .lentBuffer)) (d .scriptBytes) (d .queries) (d .reads) ready (d .lines)
 
 -- and its values can be read back
-fits-all : (qs : List Query) → AllInLimits qs → RecordFits (ordered qs)
+fits-all : (qs : List Query) → Each InLimits qs → RecordFits (ordered qs)
 fits-all [] l = tt
 fits-all (q ∷ qs) l = (answer-reordered (given (q .lines)) .fit (given-fits (q .lines) (l .0 .fit)), fits-all qs (l .1))
 
@@ -112,7 +114,7 @@ module _ (d : Drive) where
   count-parts = omega (arith, length-take count (ordered (d .queries)), length-ordered (d .queries), fitting-few room (d .queries))
 
   -- what stands in the buffer are the parts of the queries that fit
-  record-is : hireRecord d ≡ recordBytes parts
+  record-is : hireRecord d ≡ writeRow partFormat parts
   record-is =
       let w : d .run .written ≡ length (joined (comesTo d .parts)) = ap (λ (x : Recorded). x .written) (d .ran) in
       let b : d .buffer ≡ sets (d .lentBuffer) 0 (joined (comesTo d .parts)) = ap (λ (x : Recorded). x .out) (d .ran) in
@@ -121,7 +123,7 @@ module _ (d : Drive) where
       put-front put ∙ take-all room (joined (comesTo d .parts)) inside ∙ ap (λ (r : Run). joined (r .parts)) (ran d) ∙ told-parts room (d .queries)
 
   stand-is : partsStanding d ≡ count
-  stand-is = ap (λ s. partsIn (readRecord s)) record-is ∙ ap partsIn (record-back parts parts-fit) ∙ count-parts
+  stand-is = ap (λ s. length (listOf (readRecord s))) record-is ∙ ap (λ r. length (listOf r)) (record-back parts parts-fit) ∙ count-parts
 
   answer-is : runAnswer (d .run .answer) ≡ told room (d .queries) .answer
   answer-is = ap (λ (x : Recorded). x .answer) (d .ran) ∙ ap (λ (r : Run). r .answer) (ran d)

@@ -6,6 +6,7 @@ use Prim.Native.Nat.{ℕ, _≤_, _<_}
 use native.Mathlib.Omega.{arith}
 use lib.ListN.{length}
 use lib.Seq.{sets}
+use Rattle.group.specs.Format.{Each}
 use Rattle.wire.specs.Answer.{Answer, result, refused}
 use Rattle.wire.specs.Call.{Said, saying}
 use Rattle.wire.specs.Text.{same}
@@ -13,8 +14,8 @@ use Rattle.wire.proofs.Cases.{by-test, from-no}
 use Rattle.wire.proofs.TextLaws.{same-true}
 use Rattle.wire.proofs.All.{Bytes}
 use Rattle.group.specs.Group.{groupBytes}
-use Rattle.line_list.specs.Lines.{Line, AllFit, linesBytes}
-use Rattle.value.specs.Values.{partBytes}
+use Rattle.line_list.specs.Lines.{Line, Fits, linesBytes}
+use Rattle.value.specs.Values.{partFormat}
 use Rattle.reply.specs.Reply.{replyText}
 use Rattle.reply.proofs.ByteLaws.{replyBody}
 use Rattle.reply_lines.specs.Lines.{unspaced}
@@ -35,7 +36,7 @@ use Rattle.script.specs.Script.{Query}
 use Rattle.exchange.specs.Exchange.{Exchanged, exchanged}
 use Rattle.bench.specs.Run as run
 use Rattle.bench.specs.Run.{sendRoom, replyRoom, valuesRoom, Bench, Turn, turn, onward, startSays, Part, partOf, finished, part}
-use Rattle.line_list.proofs.LinesLaws.{AllBytes}
+use Rattle.line_list.proofs.LineLaws.{AllBytes}
 use Rattle.agreement.specs.Lines.{GoodLines}
 use Rattle.agreement.specs.Vehicle.{given}
 use Rattle.agreement.specs.Demand.{commandOf}
@@ -51,13 +52,13 @@ pub record Ready (q : Query) : Type 0 where
   pub few : length (q .pids) ≤ 6
   pub counted : q .count ≤ 256
   pub pids : Bytes (q .pids)
-  pub fit : AllFit (q .lines)
+  pub fit : Each Fits (q .lines)
   pub many : length (q .lines) ≤ 64
   pub bytes : AllBytes (q .lines)
 
 -- The part is what the vehicle gave, and the sessions stand between queries again.
 pub record Gives (L : ℕ → ℕ) (q : Query) (p : Part) : Type 0 where
-  pub answer : p .answer ≡ result (partBytes (answerOrder (given (q .lines))))
+  pub answer : p .answer ≡ result (partFormat .write (answerOrder (given (q .lines))))
   pub handed : p .handed ≡ commandOf q ∷ []
   pub between : Between L (p .bench)
 

@@ -6,11 +6,12 @@ use Prim.Native.Nat.{ℕ, _≤_}
 use native.Mathlib.Omega.{arith}
 use lib.ListN.{length, take, length-take}
 use borrow.Author.Tests.{le-ltb}
+use Rattle.group.specs.Format.{Each}
 use Rattle.wire.specs.Answer.{result}
 use Rattle.wire.specs.Call.{Said}
 use Rattle.wire.specs.Text.{high}
 use Rattle.wire.proofs.All.{Bytes}
-use Rattle.line_list.specs.Lines.{Line, AllFit}
+use Rattle.line_list.specs.Lines.{Line, Fits}
 use Rattle.value.specs.Values.{Value, valuesBytes}
 use Rattle.value.specs.Same.{SameValues}
 use Rattle.value.proofs.RecordLaws.{ValuesFit}
@@ -27,7 +28,7 @@ use Rattle.client_session.specs.Piece.{replyIn}
 use Rattle.client_session.specs.Finish.{question, isComplete, finished, finishSays}
 use Rattle.client_session.proofs.FinishLaws.{finish-low}
 use Rattle.bench.specs.Run.{valuesRoom}
-use Rattle.line_list.proofs.LinesLaws.{AllBytes}
+use Rattle.line_list.proofs.LineLaws.{AllBytes}
 use Rattle.agreement.specs.Vehicle.{given}
 use Rattle.agreement.specs.Lines.{GoodLines}
 use Rattle.agreement.proofs.ReplyBack.{known, reply-back}
@@ -108,7 +109,7 @@ after-agree L false (p ∷ ps) lengths ls b a g = learn-agree L lengths p ls (b 
 
 -- the client's values are what the vehicle gave, and its lengths still agree with the run's
 pub finish-given : (L : ℕ → ℕ) (c : Client) (store : List ℕ) (l : Line) (ls : List Line) → isComplete (c .under) ≡ true → 4096 ≤ length store → c .known .framing ≡ true →
-    replyIn c store ≡ replyText false false true (l ∷ ls) → AllFit (l ∷ ls) → AllBytes (l ∷ ls) → GoodLines L (l ∷ ls) → Bytes (c .query .pids) → Agree L (c .known .lengths) →
+    replyIn c store ≡ replyText false false true (l ∷ ls) → Each Fits (l ∷ ls) → AllBytes (l ∷ ls) → GoodLines L (l ∷ ls) → Bytes (c .query .pids) → Agree L (c .known .lengths) →
     Gave L c (given (l ∷ ls)) (finishSays valuesRoom c store)
 finish-given L c store l ls turn size framed r fit bytes good pids a =
     let back : replyLines (c .known .framing) (replyIn c store) ≡ map known (l ∷ ls) = (λ i. replyLines (framed i) (r i)) ∙ reply-back l ls fit bytes in

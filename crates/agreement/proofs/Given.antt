@@ -18,7 +18,7 @@ use Rattle.line_list.specs.Lines.{Line}
 use Rattle.reply.specs.Reply.{ecuId}
 use Rattle.reply_values.specs.Values.{spanOf, walked, lineValues, valuesOf}
 use Rattle.reply_values.proofs.WalkLaws.{walked-nil, walked-cons}
-use Rattle.line_list.proofs.LinesLaws.{AllBytes}
+use Rattle.line_list.proofs.LineLaws.{AllBytes}
 use Rattle.agreement.specs.Vehicle.{givenEcu, owed, takes, givenLine, given}
 use Rattle.agreement.proofs.ReplyBack.{known}
 

@@ -8,10 +8,11 @@ use lib.Dec.{eqb}
 use lib.ListN.{length}
 use lib.Seq.{take-all}
 use borrow.Author.Tests.{le-leb, lt-leb, ne-eqb, le-ltb}
+use Rattle.group.specs.Format.{Each}
 use Rattle.wire.specs.Text.{ascii, any, high, isSpace, raised}
 use Rattle.wire.proofs.All.{All}
 use Rattle.wire.proofs.Cases.{by-test}
-use Rattle.line_list.specs.Lines.{Line, AllFit, linesBytes}
+use Rattle.line_list.specs.Lines.{Line, Fits, linesBytes}
 use Rattle.line_list.proofs.LineLaws.{list-back}
 use Rattle.at_command.specs.Dialect.{atKind}
 use Rattle.reply.specs.Shape.{chipReply}
@@ -75,11 +76,11 @@ headers-on-heard = refl
 -- ---- a reply's size
 
 -- five digits of header, two for each of at most 255 bytes, and CR
-lines-fit : (ls : List Line) → AllFit ls → linesSize false false true ls ≤ 516 * length ls
+lines-fit : (ls : List Line) → Each Fits ls → linesSize false false true ls ≤ 516 * length ls
 lines-fit [] f = omega arith
 lines-fit (l ∷ ls) f = omega (arith, line-length false true l, f .0 .short, lines-fit ls (f .1))
 
-pub reply-fits : (ls : List Line) → AllFit ls → length ls ≤ 64 → length (replyText false false true ls) ≤ replyRoom
+pub reply-fits : (ls : List Line) → Each Fits ls → length ls ≤ 64 → length (replyText false false true ls) ≤ replyRoom
 reply-fits [] f h = omega (arith, none-length false false true)
 reply-fits (l ∷ ls) f h = omega (arith, some-length false false true l ls, lines-fit (l ∷ ls) f)
 
@@ -98,7 +99,7 @@ kept-whole last command k (l ∷ ls) = rw (take-all 128 command k)
 
 -- a command handed out is answered with the lines of the query under way
 lines-heard : (last text command : List ℕ) (n : ℕ) → bytesSay replyRoom (quiet last) text ≡ handing (quiet last) command ObdCommand n [] → length command ≤ 128 →
-    (ls : List Line) → AllFit ls → length ls ≤ 64 →
+    (ls : List Line) → Each Fits ls → length ls ≤ 64 →
     exchanged replyRoom (quiet last) text (linesBytes ls) ≡
     record { next = quiet (lastCommand ls last command); text = replyText false false true ls; handed = command ∷ [] }
 unfolding exchanged replySays
@@ -164,7 +165,7 @@ module _ (pids : List ℕ) (count : ℕ) where
           line-says text [] (quiet last) replyRoom (none-special text all) refl (omega arith) (omega arith) (rw same unspaced-some) ∙ rw (same, query-obd)
 
       -- a query in full is handed out without its spaces
-      pub heard : (last : List ℕ) (ls : List Line) → AllFit ls → length ls ≤ 64 →
+      pub heard : (last : List ℕ) (ls : List Line) → Each Fits ls → length ls ≤ 64 →
           exchanged replyRoom (quiet last) (queryText pids count ++ (13 ∷ [])) (linesBytes ls) ≡
           record {
             next = quiet (lastCommand ls last (unspaced (queryText pids count)));
@@ -180,7 +181,7 @@ last-same [] t = refl
 last-same (l ∷ ls) t = refl
 
 -- it hands out the last command again
-pub heard-again : (t : List ℕ) → 0 < length t → length t ≤ 128 → (ls : List Line) → AllFit ls → length ls ≤ 64 →
+pub heard-again : (t : List ℕ) → 0 < length t → length t ≤ 128 → (ls : List Line) → Each Fits ls → length ls ≤ 64 →
     exchanged replyRoom (quiet t) (13 ∷ []) (linesBytes ls) ≡ record { next = quiet t; text = replyText false false true ls; handed = t ∷ [] }
 unfolding canonical
 heard-again t some short ls f h =

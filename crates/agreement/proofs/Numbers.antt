@@ -3,6 +3,7 @@
 use mathlib.Core.Path.{_≡_, refl, sym, ap, subst, _∙_}
 use mathlib.Core.Bool.{Bool, true, false}
 use mathlib.Core.List.{List, [], _∷_, _++_}
+use mathlib.Core.Logic.{⊎-elim}
 use Prim.Native.Nat.{ℕ, zero, suc, _-_, _≤_, _<_}
 use native.Mathlib.Omega.{arith}
 use lib.Dec.{ltb}
@@ -28,9 +29,8 @@ use Rattle.client_session.specs.Piece.{Progress, complete, replyIn}
 use Rattle.client_session.specs.Finish.{finishSays}
 use Rattle.client_session.proofs.StartLaws.{query-repeated, query-in-full}
 use Rattle.client_session.proofs.PiecesLaws.{Awaiting, prompted}
-use Rattle.group.specs.Group.{Read, got}
-use Rattle.group.specs.Group.{malformed as none}
-use Rattle.script.specs.Script.{Query, readQueries, queriesOf, script}
+use Rattle.script.specs.Script.{Query, script}
+use Rattle.script.proofs.ScriptLaws.{script-numbers}
 use Rattle.exchange.specs.Exchange.{Exchanged, exchanged}
 use Rattle.bench.specs.Run as run
 use Rattle.bench.specs.Run.{sendRoom, replyRoom, valuesRoom, Bench, Turn, turn, onward, later, startSays, Part, partOf, finished, part, asked, runSays, runRead, initialised}
@@ -219,14 +219,11 @@ read-ends : (repeat : Bool) (ks : List ℕ) (room : ℕ) (qs : List Query) → A
 read-ends repeat ks room qs ok = rw (started (λ p. 0) repeat ks .answer) (asked-ends room (initialised repeat ks .bench) qs (fresh-quiet repeat ks) ok)
 
 -- a script that is refused gets 3 or 5
-by-reading : (repeat : Bool) (ks : List ℕ) (room : ℕ) (r : Read (List Query)) → ((qs : List Query) → queriesOf r ≡ result qs → AllReady qs) → Ends (runRead repeat ks room (queriesOf r) .answer)
-by-reading repeat ks room none ok = malformed
-by-reading repeat ks room (got qs rest) ok = read-ends repeat ks room qs (ok qs refl)
+by-script : (repeat : Bool) (ks : List ℕ) (room : ℕ) (s : List ℕ) → Bytes s → (a : Answer (List Query)) → script s ≡ a → Ends (runRead repeat ks room a .answer)
+by-script repeat ks room s b (refused n) e = ⊎-elim (λ three. rw three too-long) (λ five. rw five malformed) (script-numbers s n e)
+by-script repeat ks room s b (result qs) e = read-ends repeat ks room qs (script-ready s qs b e)
 
 -- "3, 5, then as it runs 8 or 6" (READING-01.md), on every script, which is bytes
 pub run-ends : (repeat : Bool) (ks : List ℕ) (room : ℕ) (s : List ℕ) → Bytes s → Ends (runSays repeat ks room s .answer)
-unfolding runSays script
-run-ends repeat ks room s b =
-    by-test (ltb 16384 (length s))
-    (λ e. rw e too-long)
-    (λ e. rw e (by-reading repeat ks room (readQueries (length s) s) (λ qs q. script-ready s qs b (rw e q))))
+unfolding runSays
+run-ends repeat ks room s b = by-script repeat ks room s b (script s) refl

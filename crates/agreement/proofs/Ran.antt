@@ -6,12 +6,13 @@ use Prim.Native.Nat.{ℕ, _-_}
 use lib.Dec.{ltb}
 use lib.ListN.{length}
 use borrow.Author.Tests.{ltb-true, ltb-false}
+use Rattle.group.specs.Format.{Each}
 use Rattle.wire.specs.Answer.{result}
 use Rattle.wire.proofs.Cases.{by-test}
 use Rattle.wire.proofs.All.{Bytes}
 use Rattle.reply.specs.Reply.{replyText}
 use Rattle.script.specs.Script.{Query, script}
-use Rattle.script.specs.Written.{AllInLimits}
+use Rattle.script.specs.Script.{InLimits}
 use Rattle.script.proofs.ScriptLaws.{AllAreBytes, script-limits, script-bytes}
 use Rattle.bench.specs.Run.{Bench, initialised, part, asked, runRead, runSays}
 use Rattle.agreement.specs.Demand.{GoodQueries}
@@ -24,7 +25,7 @@ AllReady [] = Unit {0}
 AllReady (q ∷ qs) = Ready q × AllReady qs
 
 -- a script's queries are such
-ready : (qs : List Query) → AllInLimits qs → AllAreBytes qs → AllReady qs
+ready : (qs : List Query) → Each InLimits qs → AllAreBytes qs → AllReady qs
 ready [] l b = tt
 ready (q ∷ qs) l b = (
   record {

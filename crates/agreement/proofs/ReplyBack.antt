@@ -6,14 +6,15 @@ use mathlib.Core.List.{List, [], _∷_, _++_, map}
 use Prim.Native.Nat.{ℕ, zero, suc, _≤_, _<_}
 use native.Mathlib.Omega.{arith}
 use lib.ListN.{length}
+use Rattle.group.specs.Format.{Each}
 use Rattle.hex.specs.Digits.{hexByte, hexId, hexBytes}
-use Rattle.line_list.specs.Lines.{Line, line, AllFit}
+use Rattle.line_list.specs.Lines.{Line, line, Fits}
 use Rattle.reply.specs.Shape.{chipReply}
 use Rattle.reply.specs.Reply.{ecuId, furtherHex, dataHex, lineText, replyText}
 use Rattle.reply_lines.specs.Lines.{textLines}
 use Rattle.reply_lines.specs.Decode.{textLine, replyLines}
 use Rattle.reply_lines.proofs.BackLaws.{plain-line, empty-line, prompt-line, framed-plain, framed-back}
-use Rattle.line_list.proofs.LinesLaws.{AllBytes}
+use Rattle.line_list.proofs.LineLaws.{AllBytes}
 
 -- a line with its ECU known
 abbrev pub known : Line → Line
@@ -50,13 +51,13 @@ texts (l ∷ ls) =
     plain-line (chars l) rest (framed-plain (ecuId (l .ecu)) (length (l .bytes)) (l .bytes)) (some-chars l) ∙
     (λ i. sym (line-as l) i ∷ texts ls i)
 
-decoded : (ls : List Line) → AllFit ls → AllBytes ls → map (textLine true) (map (lineText false true) ls) ≡ map known ls
+decoded : (ls : List Line) → Each Fits ls → AllBytes ls → map (textLine true) (map (lineText false true) ls) ≡ map known ls
 decoded [] f b = refl
 decoded (l ∷ ls) f b =
     let one = ap (textLine true) (line-as l) ∙ framed-back (ecuId (l .ecu)) (length (l .bytes)) (l .bytes) (id-small (l .ecu) (f .0 .known)) (b .0) in
     (λ i. one i ∷ decoded ls (f .1) (b .1) i)
 
 -- what was replied is read back
-pub reply-back : (l : Line) (ls : List Line) → AllFit (l ∷ ls) → AllBytes (l ∷ ls) → replyLines true (replyText false false true (l ∷ ls)) ≡ map known (l ∷ ls)
+pub reply-back : (l : Line) (ls : List Line) → Each Fits (l ∷ ls) → AllBytes (l ∷ ls) → replyLines true (replyText false false true (l ∷ ls)) ≡ map known (l ∷ ls)
 unfolding replyText replyLines
 reply-back l ls f b = ap (map (textLine true)) (texts (l ∷ ls)) ∙ decoded (l ∷ ls) f b

@@ -7,13 +7,14 @@ use native.Mathlib.Omega.{arith}
 use lib.Dec.{eqb, ltb}
 use lib.ListN.{length, take, length-append}
 use borrow.Author.Tests.{ltb-false}
+use Rattle.group.specs.Format.{Each, writeRow}
 use Rattle.wire.specs.Answer.{result}
 use Rattle.wire.specs.Text.{joined}
 use Rattle.wire.proofs.Cases.{by-test}
 use Rattle.pid.specs.J1979.{j1979}
-use Rattle.line_list.specs.Lines.{Line, AllFit}
+use Rattle.line_list.specs.Lines.{Line, Fits}
 use Rattle.group.specs.Group.{groupBytes}
-use Rattle.value.specs.Values.{Value, valuesBytes, partBytes, recordBytes}
+use Rattle.value.specs.Values.{Value, valuesBytes, partFormat}
 use Rattle.value.proofs.RecordLaws.{ValuesFit}
 use Rattle.reply.specs.Reply.{replyText}
 use Rattle.reply_values.specs.Values.{answerOrder}
@@ -29,9 +30,9 @@ ordered qs = map (λ (q : Query). answerOrder (given (q .lines))) qs
 
 -- the part of a query
 abbrev pub givenPart : Query → List ℕ
-givenPart q = partBytes (answerOrder (given (q .lines)))
+givenPart q = partFormat .write (answerOrder (given (q .lines)))
 
-part-size : (q : Query) → length (partBytes (given (q .lines))) ≡ length (givenPart q)
+part-size : (q : Query) → length (partFormat .write (given (q .lines))) ≡ length (givenPart q)
 part-size q =
     let vs = given (q .lines) in
     let o = answer-reordered vs in
@@ -53,7 +54,7 @@ told room (q ∷ qs) =
 -- A run's fields, by how many queries fit.
 record Fields (k : ℕ) (room : ℕ) (qs : List Query) (r : Run) : Type 0 where
   few : k ≤ length qs
-  parts : joined (r .parts) ≡ recordBytes (take k (ordered qs))
+  parts : joined (r .parts) ≡ writeRow partFormat (take k (ordered qs))
   handed : r .handed ≡ take (suc k) (commands qs)
   inside : length (joined (r .parts)) ≤ room
   whole : k ≡ length qs → r .answer ≡ result tt
@@ -88,7 +89,7 @@ module _ (room : ℕ) (qs : List Query) where
   pub fitting-few : fitting room qs ≤ length qs
   fitting-few = told-fields room qs .few
 
-  pub told-parts : joined (told room qs .parts) ≡ recordBytes (take (fitting room qs) (ordered qs))
+  pub told-parts : joined (told room qs .parts) ≡ writeRow partFormat (take (fitting room qs) (ordered qs))
   told-parts = told-fields room qs .parts
 
   pub told-handed : told room qs .handed ≡ take (suc (fitting room qs)) (commands qs)
@@ -119,7 +120,7 @@ ecu-fits : (e : ℕ) → e ≤ 4096 → givenEcu e ≤ 4096
 ecu-fits zero h = omega arith
 ecu-fits (suc e) h = h
 
-pub given-fits : (ls : List Line) → AllFit ls → ValuesFit (given ls)
+pub given-fits : (ls : List Line) → Each Fits ls → ValuesFit (given ls)
 given-fits [] f = tt
 given-fits (l ∷ ls) f =
     fit-append (givenLine (givenEcu (l .ecu)) (l .bytes)) (given ls) (line-fits (givenEcu (l .ecu)) (l .bytes) (ecu-fits (l .ecu) (f .0 .known))) (given-fits ls (f .1))

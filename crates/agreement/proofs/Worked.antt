@@ -1,9 +1,10 @@
 -- What a vehicle gave, worked out by hand from document 01: card 5's line with its ECU unknown, and a line of 7E9 with a PID outside the table; how many queries fit.
 use mathlib.Core.Path.{_≡_, refl}
 use mathlib.Core.List.{List, [], _∷_}
+use lib.ListN.{length}
 use Rattle.wire.specs.Text.{ascii}
 use Rattle.hex.specs.Digits.{hexDigit}
-use Rattle.group.specs.Group.{groupBytes}
+use Rattle.group.specs.Group.{groupBytes, listOf}
 use Rattle.line_list.specs.Lines.{line}
 use Rattle.value.specs.Values.{valueFormat, valuesBytes, readRecord}
 use Rattle.pid.specs.J1979.{j1979}
@@ -11,7 +12,7 @@ use Rattle.query.specs.Query.{queryText}
 use Rattle.reply.specs.Reply.{lineText, replyText}
 use Rattle.script.specs.Script.{Query, query}
 use Rattle.agreement.specs.Vehicle.{given}
-use Rattle.agreement.specs.Demand.{commands, fitting, partsIn, SameFirst}
+use Rattle.agreement.specs.Demand.{commands, fitting, SameFirst}
 
 two-pids : valuesBytes (given (line 0 (0x41 ∷ 0x0C ∷ 0x1A ∷ 0xF8 ∷ 0x0D ∷ 0x20 ∷ []) ∷ [])) ≡
     0x0C ∷ 0xE9 ∷ 0x0F ∷ 0x04 ∷ 0x41 ∷ 0x0C ∷ 0x1A ∷ 0xF8 ∷ 0x0D ∷ 0xE9 ∷ 0x0F ∷ 0x03 ∷ 0x41 ∷ 0x0D ∷ 0x20 ∷ []
@@ -39,10 +40,10 @@ unfolding replyText lineText hexDigit valueFormat groupBytes j1979
 one-fits = refl
 
 -- a record of two parts, and one that has the first of them alone
-two-parts : partsIn (readRecord (0x00 ∷ 0x01 ∷ 0x0D ∷ 0xE9 ∷ 0x0F ∷ 0x03 ∷ 0x41 ∷ 0x0D ∷ 0x20 ∷ [])) ≡ 2
-unfolding readRecord
+two-parts : length (listOf (readRecord (0x00 ∷ 0x01 ∷ 0x0D ∷ 0xE9 ∷ 0x0F ∷ 0x03 ∷ 0x41 ∷ 0x0D ∷ 0x20 ∷ []))) ≡ 2
+unfolding readRecord valueFormat
 two-parts = refl
 
 same-first : SameFirst 1 (0x00 ∷ 0x01 ∷ 0x0D ∷ 0xE9 ∷ 0x0F ∷ 0x03 ∷ 0x41 ∷ 0x0D ∷ 0x20 ∷ []) (0x00 ∷ [])
-unfolding readRecord
+unfolding readRecord valueFormat
 same-first = ((λ p. refl), tt)

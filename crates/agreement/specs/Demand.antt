@@ -9,8 +9,8 @@ use Prim.Native.Nat.{ℕ, suc, _-_, _≤_, _<_}
 use lib.Dec.{ltb}
 use lib.ListN.{length, take, getD}
 use Rattle.wire.specs.Answer.{result}
-use Rattle.group.specs.Group.{Read, got, malformed}
-use Rattle.value.specs.Values.{Value, partBytes, readRecord}
+use Rattle.group.specs.Group.{Read, got, failed, listOf}
+use Rattle.value.specs.Values.{Value, partFormat, readRecord}
 use Rattle.value.specs.Same.{SameQueries, SameReadings, SameRecord}
 use Rattle.reply.specs.Reply.{replyText}
 use Rattle.reply_lines.specs.Lines.{unspaced}
@@ -48,15 +48,11 @@ abbrev pub fitting : ℕ → List Query → ℕ
 fitting room [] = 0
 fitting room (q ∷ qs) =
     cond (ltb 4096 (length (replyText false false true (q .lines)))) 0
-    (cond (ltb room (length (partBytes (given (q .lines))))) 0 (suc (fitting (room - length (partBytes (given (q .lines)))) qs)))
+    (cond (ltb room (length (partFormat .write (given (q .lines))))) 0 (suc (fitting (room - length (partFormat .write (given (q .lines)))) qs)))
 
--- the parts of a record, as its bytes are read, and whether those of the first n queries agree PID by PID
-abbrev pub partsIn : Read (List (List Value)) → ℕ
-partsIn malformed = 0
-partsIn (got vss rest) = length vss
-
+-- whether the parts of the first n queries of two records, as their bytes are read, agree PID by PID
 abbrev pub firstOf : ℕ → Read (List (List Value)) → Read (List (List Value))
-firstOf n malformed = malformed
+firstOf n (failed j) = failed j
 firstOf n (got vss rest) = got (take n vss) rest
 
 abbrev pub SameFirst : ℕ → List ℕ → List ℕ → Type 0
@@ -87,7 +83,7 @@ hireRecord d = take (d .run .written) (d .buffer)
 
 -- how many queries' parts stand, as the record is read, and all that the run comes to
 abbrev pub partsStanding : Drive → ℕ
-partsStanding d = partsIn (readRecord (hireRecord d))
+partsStanding d = length (listOf (readRecord (hireRecord d)))
 
 abbrev pub comesTo : Drive → Run
 comesTo d = runSays (d .repeat) (d .pieces) (length (d .lentBuffer)) (d .scriptBytes)

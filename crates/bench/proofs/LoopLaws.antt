@@ -142,7 +142,7 @@ module _ {whole : Recorded} {s lengths : List ℕ} {b : code.Bench} {place at : 
       recorded (record { answer = Complete; written = at }) buffer ≡ whole
   left-done (step.Query pids few count list next) e k = absurd (miss (1 ∷ 2 ∷ []) 0 tt k)
   left-done step.End e k = left-end (step-end s place e refl)
-  left-done (step.Refused n) e k = let none = step-none s place e refl in absurd (ahead-none queryFormat s place (l .queries) (l .ahead) (none .0) (none .1))
+  left-done (step.Refused n) e k = let none = step-none s place {n = n} e refl in absurd (ahead-none queryFormat s place (l .queries) (l .ahead) (none .0) (none .1))
 
   -- a query has been asked, and r is what became of its part
   module _ (q : Query) (pids few count list next : ℕ) (w : QueryHere s place q pids few count list next) (p : PartStep) (values store₁ : List ℕ)

@@ -3,7 +3,7 @@ use mathlib.Core.Path.{_≡_, refl}
 use mathlib.Core.Bool.{true}
 use mathlib.Core.List.{List, [], _∷_, _++_}
 use Prim.Native.Nat.{ℕ}
-use Rattle.wire.specs.Answer.{result, refused}
+use Rattle.wire.specs.Answer.{result, refused, unless}
 use Rattle.wire.specs.Text.{ascii, has, high, isSpace, raised}
 use Rattle.hex.specs.Digits.{hexDigit}
 use Rattle.hex.specs.Read.{digit, leading}
@@ -24,7 +24,7 @@ use Rattle.reply_values.specs.Learn.{learnLength}
 use Rattle.client_session.specs.Start.{initSays, queryPidSays, queryPidsSays}
 use Rattle.client_session.specs.Piece.{replyTakes, pieceSays}
 use Rattle.client_session.specs.Finish.{finishSays}
-use Rattle.script.specs.Script.{script}
+use Rattle.script.specs.Script.{queryFormat, script}
 use Rattle.exchange.specs.Exchange.{exchanged}
 use Rattle.exchange.specs.Deliver.{pieces, delivered}
 use Rattle.bench.specs.Run.{initialised, part, runSays}
@@ -45,5 +45,5 @@ examples :
     (runSays true [] 9 (worked ++ worked) ≡ record { answer = refused 6; parts = workedPart ∷ []; handed = ascii "010C1" ∷ ascii "010C1" ∷ [] }) ×
     (runSays true [] 2 (noData ++ noData) ≡ record { answer = result tt; parts = (0x00 ∷ []) ∷ (0x00 ∷ []) ∷ []; handed = ascii "010C" ∷ ascii "010C" ∷ [] }) ×
     (runSays true [] 9 (0x00 ∷ worked) ≡ record { answer = refused 5; parts = []; handed = [] })
-unfolding has high isSpace raised hexDigit digit leading j1979 mode01Lengths groupBytes lineList valueFormat atKind lineText replyText canonical byteNumber byteTaken byteSays bytesSay answerSays replySays queryText textLines textLine replyLines walked answerOrder learnLength initSays queryPidSays queryPidsSays replyTakes pieceSays finishSays script exchanged pieces delivered initialised part runSays
+unfolding has high isSpace raised hexDigit digit leading j1979 mode01Lengths groupBytes lineList valueFormat atKind lineText replyText canonical byteNumber byteTaken byteSays bytesSay answerSays replySays queryText textLines textLine replyLines walked answerOrder learnLength initSays queryPidSays queryPidsSays replyTakes pieceSays finishSays script unless queryFormat exchanged pieces delivered initialised part runSays
 examples = (refl, refl, refl, refl)

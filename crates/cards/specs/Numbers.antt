@@ -5,23 +5,25 @@ use mathlib.Core.Option.{none, some}
 use Prim.Native.Nat.{ℕ}
 use lib.ListN.{replicate}
 use Rattle.wire.specs.Answer.{result, refused}
+use Rattle.wire.specs.declared.Refusal.the-variants.{TooLong, Malformed, SmallBuffer}
 use Rattle.group.specs.Group.{got, groupBytes}
 use Rattle.group.specs.Answers.{groupRead, groupAt}
 use Rattle.group.specs.declared.GroupRead.the-variants as group
-use Rattle.line_list.specs.Lines.{line, linesBytes}
-use Rattle.line_list.specs.Answers.{lineStep, lineAt, linesCheck, linesIn}
+use Rattle.group.specs.Format.{writeRow}
+use Rattle.line_list.specs.Lines.{line, lineFormat, linesBytes}
+use Rattle.line_list.specs.Answers.{linePlace, listStep, lineAt, linesCheck, linesIn, lineWritten, linePut, putLine}
 use Rattle.line_list.specs.declared.LineStep.the-variants as lines
 use Rattle.line_list.specs.declared.LinesCheck.the-variants as list
-use Rattle.value.specs.Values.{Value, value, recordBytes, readRecord}
-use Rattle.value.specs.Answers.{valueStep, valueAt}
+use Rattle.line_list.specs.declared.LinePut.the-variants as put
+use Rattle.value.specs.Values.{Value, value, valueFormat, partFormat, readRecord}
+use Rattle.value.specs.Answers.{valuePlace, valueStep, valueAt}
 use Rattle.value.specs.Same.{ofPid}
 use Rattle.value.specs.declared.ValueStep.the-variants as values
 use Rattle.pid.specs.J1979.{j1979}
 use Rattle.pid.specs.Lengths.{mode01Lengths, entryLength, lengthIn, dataLength, listed}
 use Rattle.pid.specs.declared.DataLength.the-variants.{Known, Unknown}
-use Rattle.script.specs.Script.{Query, query, script}
-use Rattle.script.specs.Answers.{queryStep, queryAt, scriptCheck, queriesIn}
-use Rattle.script.specs.Written.{scriptBytes}
+use Rattle.script.specs.Script.{Query, query, queryFormat, script}
+use Rattle.script.specs.Answers.{queryPlace, queryStep, queryAt, scriptCheck, queriesIn}
 use Rattle.script.specs.declared.QueryStep.the-variants as queries
 use Rattle.script.specs.declared.ScriptCheck.the-variants as whole
 use Rattle.cards.specs.Example.{Example, example}
@@ -47,39 +49,63 @@ worked = 0x01 ∷ 0x0C ∷ 0x02 ∷ 0x01 ∷ 0x00 ∷ 0x04 ∷ 0x41 ∷ 0x0C ∷
 abbrev workedQueries : List Query
 workedQueries = query (0x0C ∷ []) 2 (line 0 (0x41 ∷ 0x0C ∷ 0x1A ∷ 0xF8 ∷ []) ∷ []) ∷ []
 
+-- a line with the highest ECU+1 and length; a query with the most PIDs and the highest ECU count+1
+abbrev longest : List ℕ
+longest = 0x80 ∷ 0x20 ∷ 0xFF ∷ 0x01 ∷ replicate 255 0x20
+
+abbrev sixPids : List ℕ
+sixPids = 0x06 ∷ 0x04 ∷ 0x05 ∷ 0x0B ∷ 0x0C ∷ 0x0D ∷ 0x0F ∷ 0x80 ∷ 0x02 ∷ 0x00 ∷ []
+
+abbrev six : Query
+six = query (0x04 ∷ 0x05 ∷ 0x0B ∷ 0x0C ∷ 0x0D ∷ 0x0F ∷ []) 256 []
+
 abbrev pub numbers : List Example
 numbers =
     example "127, 300 and 4,096 as group numbers" (map groupBytes (127 ∷ 300 ∷ 4096 ∷ [])) ((0x7F ∷ []) ∷ (0xAC ∷ 0x02 ∷ []) ∷ (0x80 ∷ 0x20 ∷ []) ∷ []) ∷
     example "300 after a byte" (groupAt 511 (0x05 ∷ 0xAC ∷ 0x02 ∷ 0x07 ∷ []) 1) (groupRead (group.Number 300 3)) ∷
     example "80 00 is not the shortest form" (groupAt 511 (0x80 ∷ 0x00 ∷ []) 0) (refused 5) ∷
     example "300 is over 255" (groupAt 255 (0xAC ∷ 0x02 ∷ []) 0) (refused 5) ∷
-    example "a number that does not end" (groupAt 511 (0x80 ∷ []) 0) (groupRead group.Malformed) ∷
+    example "a number that does not end" (groupAt 511 (0x80 ∷ []) 0) (groupRead (group.Refused Malformed)) ∷
     example "one line" (linesIn speedLine) (linesCheck (list.Lines 1)) ∷
-    example "its ECU, its data and the next line" (lineAt speedLine 0) (result (0 ∷ 2 ∷ 5 ∷ [])) ∷
-    example "no line after it" (lineAt speedLine 5) (lineStep lines.End) ∷
-    example "an ECU of 4,096 and one of 4,097" (linesIn (0x80 ∷ 0x20 ∷ 0x00 ∷ []) ∷ linesIn (0x81 ∷ 0x20 ∷ 0x00 ∷ []) ∷ []) (result (1 ∷ []) ∷ refused 5 ∷ []) ∷
-    example "a line of 256 bytes" (linesIn (0x00 ∷ 0x80 ∷ 0x02 ∷ replicate 256 0)) (linesCheck list.Malformed) ∷
-    example "a line cut short" (lineAt (0x00 ∷ 0x03 ∷ 0x41 ∷ []) 0) (lineStep lines.Malformed) ∷
-    example "64 and 65 lines" (linesIn (replicate 128 0) ∷ linesIn (replicate 130 0) ∷ []) (result (64 ∷ []) ∷ refused 5 ∷ []) ∷
+    example "its ECU, its data and the next line" (lineAt speedLine 0) (result (some (linePlace 0 2 5))) ∷
+    example "no line after it" (lineAt speedLine 5) (listStep lines.End) ∷
+    example "an ECU of 4,096 and one of 4,097" (linesIn (0x80 ∷ 0x20 ∷ 0x00 ∷ []) ∷ linesIn (0x81 ∷ 0x20 ∷ 0x00 ∷ []) ∷ []) (result 1 ∷ refused 5 ∷ []) ∷
+    example "a line of 256 bytes" (linesIn (0x00 ∷ 0x80 ∷ 0x02 ∷ replicate 256 0)) (linesCheck (list.Refused Malformed)) ∷
+    example "a line cut short" (lineAt (0x00 ∷ 0x03 ∷ 0x41 ∷ []) 0) (listStep (lines.Refused Malformed)) ∷
+    example "64 and 65 lines" (linesIn (replicate 128 0) ∷ linesIn (replicate 130 0) ∷ []) (result 64 ∷ refused 5 ∷ []) ∷
     example "a line of 7E8" (linesBytes (line 0x7E9 (0x41 ∷ 0x0D ∷ 0x20 ∷ []) ∷ [])) (0xE9 ∷ 0x0F ∷ 0x03 ∷ 0x41 ∷ 0x0D ∷ 0x20 ∷ []) ∷
-    example "card 1's value: PID, ECU+1, where its data starts, and the end" (valueAt engineSpeed 0) (result (0x0C ∷ 0x7E9 ∷ 6 ∷ 8 ∷ [])) ∷
-    example "no value after it, and one of another PID than it says" (valueAt engineSpeed 8 ∷ valueAt (0x0D ∷ 0x00 ∷ 0x02 ∷ 0x41 ∷ 0x0C ∷ []) 0 ∷ []) (valueStep values.End ∷ valueStep values.Malformed ∷ []) ∷
+    example "an ECU+1 of 4,096 and 255 bytes, written" (lineFormat .write (line 4096 (replicate 255 0x20))) longest ∷
+    example "the same read" (lineFormat .read longest) (got (line 4096 (replicate 255 0x20)) []) ∷
+    example "a line written into what it takes, after two bytes" (putLine (replicate 7 0xFF) 2 (line 0 (0x41 ∷ 0x0D ∷ 0x20 ∷ []))) (lineWritten (linePut (put.To 7)) (0xFF ∷ 0xFF ∷ speedLine)) ∷
+    example "a byte less" (putLine (replicate 6 0xFF) 2 (line 0 (0x41 ∷ 0x0D ∷ 0x20 ∷ []))) (lineWritten (linePut (put.Refused SmallBuffer)) (replicate 6 0xFF)) ∷
+    example "an ECU+1 of 4,097, and 256 bytes, for no room" (putLine [] 0 (line 4097 []) ∷ putLine [] 0 (line 0 (replicate 256 0)) ∷ [])
+    (replicate 2 (lineWritten (linePut (put.Refused Malformed)) [])) ∷
+    example "card 1's value written" (valueFormat .write (value 0x0C 0x7E9 (0x1A ∷ 0xF8 ∷ []))) engineSpeed ∷
+    example "the worked part written" (partFormat .write (value 0x0C 0x7E9 (0x1A ∷ 0xF8 ∷ []) ∷ [])) (0x01 ∷ engineSpeed) ∷
+    example "the same read, before a byte" (partFormat .read (0x01 ∷ 0x0C ∷ 0xE9 ∷ 0x0F ∷ 0x04 ∷ 0x41 ∷ 0x0C ∷ 0x1A ∷ 0xF8 ∷ 0x07 ∷ [])) (got (value 0x0C 0x7E9 (0x1A ∷ 0xF8 ∷ []) ∷ []) (0x07 ∷ [])) ∷
+    example "a value of ECU+1 4,096 and of 4,097" (valueAt (0x0D ∷ 0x80 ∷ 0x20 ∷ 0x02 ∷ 0x41 ∷ 0x0D ∷ []) 0 ∷ valueAt (0x0D ∷ 0x81 ∷ 0x20 ∷ 0x02 ∷ 0x41 ∷ 0x0D ∷ []) 0 ∷ [])
+    (result (some (valuePlace 0x0D 4096 6 6)) ∷ refused 5 ∷ []) ∷
+    example "card 1's value: PID, ECU+1, where its data starts, and the end" (valueAt engineSpeed 0) (result (some (valuePlace 0x0C 0x7E9 6 8))) ∷
+    example "no value after it, and one of another PID than it says" (valueAt engineSpeed 8 ∷ valueAt (0x0D ∷ 0x00 ∷ 0x02 ∷ 0x41 ∷ 0x0C ∷ []) 0 ∷ [])
+    (valueStep values.End ∷ valueStep (values.Refused Malformed) ∷ []) ∷
     example "a record of two queries" (readRecord twoParts) (got speeds []) ∷
-    example "the same record written" (recordBytes speeds) twoParts ∷
+    example "the same record written" (writeRow partFormat speeds) twoParts ∷
     example "the values of a PID" (ofPid 0x0D (value 0x0C 0 (0x1A ∷ 0xF8 ∷ []) ∷ value 0x0D 0 (0x20 ∷ []) ∷ [])) (value 0x0D 0 (0x20 ∷ []) ∷ []) ∷
     example "J1979: 1F, 24, 64, C0, 66 and E0" (map j1979 (0x1F ∷ 0x24 ∷ 0x64 ∷ 0xC0 ∷ 0x66 ∷ 0xE0 ∷ [])) (some 2 ∷ some 4 ∷ some 5 ∷ some 4 ∷ none ∷ none ∷ []) ∷
     example "the table: 1F, 64 and E0" (map (lengthIn mode01Lengths) (0x1F ∷ 0x64 ∷ 0xE0 ∷ [])) (dataLength (Known 2) ∷ dataLength (Known 5) ∷ dataLength Unknown ∷ []) ∷
     example "a learned length of 0 is known" (entryLength 0) (some 0) ∷
     example "the known set: 65, 66, 80, A0, C0 and E0" (map listed (0x65 ∷ 0x66 ∷ 0x80 ∷ 0xA0 ∷ 0xC0 ∷ 0xE0 ∷ [])) (true ∷ false ∷ true ∷ true ∷ true ∷ false ∷ []) ∷
     example "the worked script's queries" (script worked) (result workedQueries) ∷
-    example "the same script written" (scriptBytes workedQueries) worked ∷
-    example "where its PIDs, its lines and the next query stand" (queryAt worked 0) (result (1 ∷ 1 ∷ 2 ∷ 4 ∷ 10 ∷ [])) ∷
+    example "the same script written" (writeRow queryFormat workedQueries) worked ∷
+    example "six PIDs and a count of 255, written" (queryFormat .write six) sixPids ∷
+    example "the same read" (script sixPids) (result (six ∷ [])) ∷
+    example "where its PIDs, its lines and the next query stand" (queryAt worked 0) (result (some (queryPlace 1 1 2 4 10))) ∷
     example "no query after it" (queryAt worked 10) (queryStep queries.End) ∷
-    example "no PID, and seven" (queryAt (0x00 ∷ 0x00 ∷ 0x00 ∷ []) 0 ∷ queryAt (0x07 ∷ replicate 9 0) 0 ∷ []) (replicate 2 (queryStep queries.Malformed)) ∷
+    example "no PID, and seven" (queryAt (0x00 ∷ 0x00 ∷ 0x00 ∷ []) 0 ∷ queryAt (0x07 ∷ replicate 9 0) 0 ∷ []) (replicate 2 (queryStep (queries.Refused Malformed))) ∷
     example "a count of 255 and of 256" (queriesIn (0x01 ∷ 0x0C ∷ 0x80 ∷ 0x02 ∷ 0x00 ∷ []) ∷ queriesIn (0x01 ∷ 0x0C ∷ 0x81 ∷ 0x02 ∷ 0x00 ∷ []) ∷ [])
-    (scriptCheck (whole.Queries 1) ∷ scriptCheck whole.Malformed ∷ []) ∷
+    (scriptCheck (whole.Queries 1) ∷ scriptCheck (whole.Refused Malformed) ∷ []) ∷
     example "a query of 64 lines and of 65" (queriesIn (0x01 ∷ 0x0C ∷ 0x00 ∷ 0x40 ∷ replicate 128 0) ∷ queriesIn (0x01 ∷ 0x0C ∷ 0x00 ∷ 0x41 ∷ replicate 130 0) ∷ [])
-    (result (1 ∷ []) ∷ refused 5 ∷ []) ∷
-    example "the empty script has no query" (queriesIn []) (result (0 ∷ [])) ∷
-    example "16,384 bytes with no PID, and one byte more" (queriesIn (replicate 16384 0) ∷ queriesIn (replicate 16385 0) ∷ []) (refused 5 ∷ scriptCheck whole.TooLong ∷ []) ∷
+    (result 1 ∷ refused 5 ∷ []) ∷
+    example "the empty script has no query" (queriesIn []) (result 0) ∷
+    example "16,384 bytes with no PID, and one byte more" (queriesIn (replicate 16384 0) ∷ queriesIn (replicate 16385 0) ∷ []) (refused 5 ∷ scriptCheck (whole.Refused TooLong) ∷ []) ∷
     []

@@ -6,12 +6,13 @@ use Prim.Native.Nat.{ℕ, zero, suc, _+_, _-_, _≤_, _<_}
 use native.Mathlib.Omega.{arith}
 use lib.ListN.{length, drop, length-append, take-append-drop}
 use lib.Seq.{length-take-le, drop-append-seam}
+use lib.Dec.{leb}
 use Rattle.wire.proofs.ListLaws.{Ends, ends-more}
 use Rattle.wire.proofs.Cases.{by-test, from-no}
 use Rattle.wire.proofs.All.{Bytes}
 use Rattle.group.specs.Group.{Read, got, failed, andThen}
 use Rattle.group.specs.Format.{Format, readByte, byte, anyGroup, group, bytesOf, field, last, having, limitedTo, counted, Each, writeRow, readRow, rowOf, readAll}
-use Rattle.group.proofs.GroupLaws.{read-written, group-written, group-got, only-written, read-rest, bytes-written, bytes-got, then-got, bytes-append}
+use Rattle.group.proofs.GroupLaws.{read-written, group-written, group-got, only-written, read-rest, bytes-written, bytes-got, then-got, bytes-append, group-fails}
 
 pub record Lawful {A : Type 0} (f : Format A) : Type 0 where
   pub back : (a : A) (rest : List ℕ) → f .Fits a → f .read (f .write a ++ rest) ≡ got a rest
@@ -292,3 +293,51 @@ module _ {A : Type 0} {f : Format A} (l : Lawful f) where
         same-after m n (f .read (b ∷ s)) (λ x t g.
         let less = some (b ∷ s) x t g in
         enough m n t (omega arith) (omega arith))
+
+-- What is not read is malformed: it gets 5 and no other number.
+pub record OnlyFive {A : Type 0} (f : Format A) : Type 0 where
+  pub five : (s : List ℕ) (j : ℕ) → f .read s ≡ failed j → j ≡ 5
+
+then-five : {A B : Type 0} (g : Read A) (k : A → List ℕ → Read B) (j : ℕ) → ((i : ℕ) → g ≡ failed i → i ≡ 5) →
+    ((a : A) (s : List ℕ) (i : ℕ) → k a s ≡ failed i → i ≡ 5) → andThen g k ≡ failed j → j ≡ 5
+then-five (failed i) k j first second q = let same : i ≡ j = cc in rw (← same) (first i refl)
+then-five (got a s) k j first second q = second a s j q
+
+pub group-five : (limit : ℕ) → OnlyFive (group limit)
+group-five limit = record { five = group-fails limit }
+
+pub bytes-five : (n : ℕ) → OnlyFive (bytesOf n)
+bytes-five n = record {
+  five = λ s j q. by-test (leb n (length s)) (λ e. let q₁ = rw e at q in from-no cc) (λ e. let q₁ = rw e at q in cc);
+}
+
+module _ {A B : Type 0} (part : A → B) {f : Format B} (w : OnlyFive f) where
+  pub field-five : {rest : B → Format A} → ((b : B) → OnlyFive (rest b)) → OnlyFive (field part f rest)
+  field-five others = record { five = λ s j q. then-five (f .read s) _ j (w .five s) (λ b. others b .five) q }
+
+  pub last-five : (make : B → A) → OnlyFive (last part f make)
+  last-five make = record { five = λ s j q. then-five (f .read s) _ j (w .five s) (λ b s i q. from-no cc) q }
+
+module _ {A : Type 0} {f : Format A} (w : OnlyFive f) where
+  pub having-five : (test : A → Bool) → OnlyFive (having f test)
+  having-five test = record {
+    five = λ s j q.
+        then-five (f .read s) _ j (w .five s) (λ a s i q. by-test (test a) (λ e. let q₁ = rw e at q in from-no cc) (λ e. let q₁ = rw e at q in cc)) q;
+  }
+
+  rows-five : (n : ℕ) (s : List ℕ) (j : ℕ) → readRow f n s ≡ failed j → j ≡ 5
+  rows-five zero s j q = from-no cc
+  rows-five (suc n) s j q = then-five (f .read s) _ j (w .five s) (λ x s i q. then-five (readRow f n s) _ i (rows-five n s) (λ xs s i q. from-no cc) q) q
+
+  pub row-five : (n : ℕ) → OnlyFive (rowOf f n)
+  row-five n = record { five = rows-five n }
+
+  pub all-five : (n : ℕ) (s : List ℕ) (j : ℕ) → readAll f n s ≡ failed j → j ≡ 5
+  all-five zero [] j q = from-no cc
+  all-five (suc n) [] j q = from-no cc
+  all-five zero (b ∷ s) j q = cc
+  all-five (suc n) (b ∷ s) j q =
+      then-five (f .read (b ∷ s)) _ j (w .five (b ∷ s)) (λ x s i q. then-five (readAll f n s) _ i (all-five n s) (λ xs s i q. from-no cc) q) q
+
+pub limited-five : {A : Type 0} {P : A → Type 0} {f : Format A} → OnlyFive f → OnlyFive (limitedTo P f)
+limited-five w = record { five = w .five }

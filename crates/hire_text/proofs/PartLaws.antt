@@ -10,11 +10,12 @@ use Rattle.wire.specs.Put.{Put}
 use Rattle.wire.specs.Text.{joined}
 use Rattle.wire.proofs.PutLaws.{put-rest, put-nil}
 use Rattle.wire.proofs.Cases.{from-no}
-use Rattle.group.specs.Group.{got, malformed, readNumber, readGroup}
+use Rattle.group.specs.Group.{got, failed, malformed, readNumber, readGroup}
+use Rattle.group.specs.Format.{readRow}
 use Rattle.group.proofs.GroupLaws.{group-got, read-rest, then-got}
 use Rattle.group.proofs.AtLaws.{NumberAt}
-use Rattle.value.specs.Values.{Value, readValue, readValues, readPart}
-use Rattle.value.proofs.ValueLaws.{value-got}
+use Rattle.value.specs.Values.{Value, valueFormat, partFormat}
+use Rattle.value.proofs.ValueLaws.{value-some}
 use Rattle.value.proofs.StepLaws.{ValueHere}
 use Rattle.hire_text.specs.Hire.{hexLine, hexLines}
 use Rattle.hire_text.specs.Steps.{IsPart, AreParts, PartEnd}
@@ -22,29 +23,22 @@ use Rattle.hire_text.specs.Steps.{IsPart, AreParts, PartEnd}
 -- ---- the search for the end of the part at a position of s
 
 -- a value takes a byte at least, so there are no more values than bytes
-value-some : (s : List ℕ) (v : Value) (rest : List ℕ) → readValue s ≡ got v rest → length rest < length s
-value-some s v rest q =
-    let w = value-got s v rest q in
-    let ecu = read-rest (w .rest₁) _ (w .rest₂) (group-got 4096 _ (w .rest₁) (w .rest₂) (w .second) .1) .0 in
-    let size = read-rest (w .rest₂) _ _ (w .third) .0 in
-    omega (arith, ap length (w .first), length-append (v .bytes) rest)
-
-values-many : (n : ℕ) (s : List ℕ) (vs : List Value) (rest : List ℕ) → readValues n s ≡ got vs rest → n ≤ length s
+values-many : (n : ℕ) (s : List ℕ) (vs : List Value) (rest : List ℕ) → readRow valueFormat n s ≡ got vs rest → n ≤ length s
 values-many zero s vs rest q = omega arith
 values-many (suc n) s vs rest q =
-    let (v, t, g₁, q₁) = then-got (readValue s) _ vs rest q in
-    let (ws, u, g₂, q₂) = then-got (readValues n t) _ vs rest q₁ in
+    let (v, t, g₁, q₁) = then-got (valueFormat .read s) _ vs rest q in
+    let (ws, u, g₂, q₂) = then-got (readRow valueFormat n t) _ vs rest q₁ in
     omega (arith, value-some s v t g₁, values-many n t ws u g₂)
 
 -- where there is no part, the end of all the bytes will do
-no-part : (s : List ℕ) (at : ℕ) → ((vs : List Value) (rest : List ℕ) → readPart (drop at s) ≡ got vs rest → ⊥) → PartEnd s at (length s)
+no-part : (s : List ℕ) (at : ℕ) → ((vs : List Value) (rest : List ℕ) → partFormat .read (drop at s) ≡ got vs rest → ⊥) → PartEnd s at (length s)
 no-part s at none = record { forward = λ h. h; inside = omega arith; ends = λ vs rest q. absurd (none vs rest q) }
 
 -- so where no number is read, up to that of the bytes
 pub no-number : (s : List ℕ) (at : ℕ) → readGroup (length s) (drop at s) ≡ malformed → PartEnd s at (length s)
 no-number s at none =
     no-part s at (λ vs rest q.
-    let (n, t, g, q₁) = then-got (readNumber (drop at s)) readValues vs rest q in
+    let (n, t, g, q₁) = then-got (readNumber (drop at s)) (readRow valueFormat) vs rest q in
     let few = le-leb n (length s) (omega (arith, values-many n t vs rest q₁, read-rest (drop at s) n t g .0, length-drop at s)) in
     let e = rw (g, few) at none in
     from-no cc)
@@ -53,7 +47,7 @@ no-number s at none =
 pub record ValuesLeft (s : List ℕ) (at n left : ℕ) : Type 0 where
   pub forward : at < n
   pub inside : n ≤ length s
-  pub more : (vs : List Value) (rest : List ℕ) → readPart (drop at s) ≡ got vs rest → (ws : List Value) × (readValues left (drop n s) ≡ got ws rest)
+  pub more : (vs : List Value) (rest : List ℕ) → partFormat .read (drop at s) ≡ got vs rest → (ws : List Value) × (readRow valueFormat left (drop n s) ≡ got ws rest)
 
 pub left-start : {s : List ℕ} {at v n : ℕ} → NumberAt (length s) s at v n → ValuesLeft s at n v
 left-start {s} {at} {v} {n} w = record {
@@ -63,36 +57,37 @@ left-start {s} {at} {v} {n} w = record {
 }
 
 -- a value and then the others, of those that are left
-next-value : (left : ℕ) (s : List ℕ) (v : Value) (t : List ℕ) (vs : List Value) (rest : List ℕ) → 0 < left → readValue s ≡ got v t → readValues left s ≡ got vs rest →
-    (ws : List Value) × (readValues (left - 1) t ≡ got ws rest)
+next-value : (left : ℕ) (s : List ℕ) (v : Value) (t : List ℕ) (vs : List Value) (rest : List ℕ) → 0 < left → valueFormat .read s ≡ got v t → readRow valueFormat left s ≡ got vs rest →
+    (ws : List Value) × (readRow valueFormat (left - 1) t ≡ got ws rest)
 next-value zero s v t vs rest h e q = absurd (omega arith)
 next-value (suc k) s v t vs rest h e q =
-    let (ws, u, g, q₁) = then-got (readValues k t) _ vs rest (rw e at q) in
+    let (ws, u, g, q₁) = then-got (readRow valueFormat k t) _ vs rest (rw e at q) in
     let one : suc k - 1 ≡ k = omega arith in
     let end : u ≡ rest = cc in
-    (ws, ap (λ n. readValues n t) one ∙ g ∙ ap (λ r. got ws r) end)
+    (ws, ap (λ n. readRow valueFormat n t) one ∙ g ∙ ap (λ r. got ws r) end)
 
-no-value : (left : ℕ) (s : List ℕ) (vs : List Value) (rest : List ℕ) → 0 < left → readValue s ≡ malformed → readValues left s ≡ got vs rest → ⊥
+no-value : (left : ℕ) (s : List ℕ) (vs : List Value) (rest : List ℕ) {j : ℕ} → 0 < left → valueFormat .read s ≡ failed j → readRow valueFormat left s ≡ got vs rest → ⊥
 no-value zero s vs rest h e q = absurd (omega arith)
 no-value (suc k) s vs rest h e q = let none = rw e at q in from-no cc
 
-last-value : (left : ℕ) (s : List ℕ) (vs : List Value) (rest : List ℕ) → left ≤ 0 → readValues left s ≡ got vs rest → s ≡ rest
+last-value : (left : ℕ) (s : List ℕ) (vs : List Value) (rest : List ℕ) → left ≤ 0 → readRow valueFormat left s ≡ got vs rest → s ≡ rest
 last-value zero s vs rest h q = cc
 last-value (suc k) s vs rest h q = absurd (omega arith)
 
 module _ {s : List ℕ} {at n left : ℕ} (k : ValuesLeft s at n left) where
   pub left-value : {p e a m : ℕ} → 0 < left → ValueHere s n p e a m → ValuesLeft s at m (left - 1)
   left-value h w = record {
-    forward = omega (arith, k .forward, w .after, w .ordered);
-    inside = w .inside;
-    more = λ vs rest q. next-value left (drop n s) _ _ _ rest h (w .reads) (k .more vs rest q .1);
+    forward = omega (arith, k .forward, w .here .after, w .ordered);
+    inside = w .here .inside;
+    more = λ vs rest q. next-value left (drop n s) _ _ _ rest h (w .here .reads) (k .more vs rest q .1);
   }
 
-  pub left-none : 0 < left → readValue (drop n s) ≡ malformed → PartEnd s at (length s)
+  pub left-none : {j : ℕ} → 0 < left → valueFormat .read (drop n s) ≡ failed j → PartEnd s at (length s)
   left-none h e = no-part s at (λ vs rest q. no-value left (drop n s) _ rest h e (k .more vs rest q .1))
 
   pub left-past : 0 < left → length s ≤ n → PartEnd s at (length s)
-  left-past h i = left-none h (rw (drop-of-length-le s i))
+  unfolding valueFormat
+  left-past h i = left-none {j = 5} h (rw (drop-of-length-le s i))
 
   pub left-end : left ≤ 0 → PartEnd s at n
   left-end h = record {

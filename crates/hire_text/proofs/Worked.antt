@@ -1,7 +1,7 @@
 -- Document 01's worked example of what `hire` prints of a script, and a malformed one; a run of two parts that a number ended.
 use mathlib.Core.Path.{_≡_, refl}
 use mathlib.Core.List.{[], _∷_}
-use Rattle.wire.specs.Answer.{refused}
+use Rattle.wire.specs.Answer.{refused, unless}
 use Rattle.wire.specs.Text.{ascii, has, high, isSpace, raised}
 use Rattle.hex.specs.Digits.{hexDigit}
 use Rattle.hex.specs.Read.{digit, leading}
@@ -22,7 +22,7 @@ use Rattle.reply_values.specs.Learn.{learnLength}
 use Rattle.client_session.specs.Start.{initSays, queryPidSays, queryPidsSays}
 use Rattle.client_session.specs.Piece.{replyTakes, pieceSays}
 use Rattle.client_session.specs.Finish.{finishSays}
-use Rattle.script.specs.Script.{script}
+use Rattle.script.specs.Script.{queryFormat, script}
 use Rattle.exchange.specs.Exchange.{exchanged}
 use Rattle.exchange.specs.Deliver.{pieces, delivered}
 use Rattle.bench.specs.Run.{initialised, part, runSays}
@@ -30,12 +30,12 @@ use Rattle.hire_text.specs.Hire.{refusedLine, runText, hireText, hirePri
 
 -- "Input bytes 01 0C 02 01 00 04 41 0C 1A F8 .. print `01 0C E9 0F 04 41 0C 1A F8`"
 example : hirePrints (0x01 ∷ 0x0C ∷ 0x02 ∷ 0x01 ∷ 0x00 ∷ 0x04 ∷ 0x41 ∷ 0x0C ∷ 0x1A ∷ 0xF8 ∷ []) ≡ ascii "01 0C E9 0F 04 41 0C 1A F8\n"
-unfolding has high isSpace raised hexDigit digit leading j1979 mode01Lengths groupBytes lineList valueFormat atKind lineText replyText canonical byteNumber byteTaken byteSays bytesSay answerSays replySays queryText textLines textLine replyLines walked answerOrder learnLength initSays queryPidSays queryPidsSays replyTakes pieceSays finishSays script exchanged pieces delivered initialised part runSays hireText
+unfolding has high isSpace raised hexDigit digit leading j1979 mode01Lengths groupBytes lineList valueFormat atKind lineText replyText canonical byteNumber byteTaken byteSays bytesSay answerSays replySays queryText textLines textLine replyLines walked answerOrder learnLength initSays queryPidSays queryPidsSays replyTakes pieceSays finishSays script unless queryFormat exchanged pieces delivered initialised part runSays hireText
 example = refl
 
 -- "a malformed or too long script prints only that"
 malformed : hirePrints (0x01 ∷ 0x0C ∷ []) ≡ ascii "refused 5\n"
-unfolding script runSays refusedLine hireText
+unfolding script unless queryFormat runSays refusedLine hireText
 malformed = refl
 
 -- two parts, the first with no value, and the number that ended the run

@@ -59,7 +59,7 @@ fn part_end(bytes: &[u8], at: usize) -> usize
                 left -= 1;
             }
             ValueStep::End => return bytes.len(),
-            ValueStep::Malformed => return bytes.len(),
+            ValueStep::Refused(_) => return bytes.len(),
         }
     }
     cursor.at
