@@ -1,5 +1,6 @@
 -- Lengths that were learned in a run agree with the run's own, so the client's walk finds what the table alone would.
 use mathlib.Core.Path.{_≡_, refl, sym, ap, _∙_}
+use mathlib.Core.Bool.{not}
 use mathlib.Core.List.{List, [], _∷_, _++_}
 use mathlib.Core.Option.{Option, none, some}
 use Prim.Native.Nat.{ℕ, _<_}
@@ -8,6 +9,7 @@ use lib.Dec.{eqb, ltb, leb}
 use lib.ListN.{length, take, drop, getD, set, length-append, length-set}
 use lib.Seq.{drop-append-seam, drop-length, getD-set-same, getD-set-other}
 use borrow.Author.Tests.{eqb-true, eqb-false}
+use Rattle.wire.specs.Text.{any}
 use Rattle.wire.proofs.Cases.{by-test, from-no}
 use Rattle.wire.proofs.All.{Bytes}
 use Rattle.group.proofs.GroupLaws.{bytes-append}
@@ -17,7 +19,7 @@ use Rattle.pid.proofs.TableLaws.{table-length, table-right}
 use Rattle.line_list.specs.Lines.{Line}
 use Rattle.value.specs.Values.{value}
 use Rattle.reply_values.specs.Values.{spanOf, walked, valuesOf}
-use Rattle.reply_values.specs.Learn.{shownBy, shownLengths, allEqual, agreed, withLength, learnUnknown, learnLength}
+use Rattle.reply_values.specs.Learn.{shownBy, shownLengths, agreed, withLength, learnLength}
 use Rattle.reply_values.proofs.WalkLaws.{walked-nil, walked-cons}
 use Rattle.line_list.proofs.LineLaws.{AllBytes}
 use Rattle.agreement.specs.Lines.{PidValues, end, next, LineData, alone, table, GoodLines}
@@ -54,14 +56,14 @@ module _ (L : ℕ → ℕ) (lengths : List ℕ) (a : Agree L lengths) (e : ℕ) 
       sym (walk-first mode01Lengths e p (length d) r (span-known (lengthIn mode01Lengths p) d s r (table-right p (b .0) ∙ h) q))
 
   span-alone : (p : ℕ) (d : List ℕ) (o : Option ℕ) → p < 256 → j1979 p ≡ none → length d ≡ L p → lengthIn lengths p ≡ o → spanOf o (length d) ≡ length d
-  span-alone p d none b h i q = refl
+  span-alone p d none b h i q = omega arith
   span-alone p d (some n) b h i q = let k = a .learned p n b h q in omega arith
 
   walk-line : {s : List ℕ} → Bytes s → LineData L s → walked lengths e s ≡ walked mode01Lengths e s
   walk-line b (table p r t) = walk-parts b t
   walk-line b (alone p d h i) =
       let none-left : drop (length d) d ≡ [] = drop-length d in
-      let all : spanOf (lengthIn mode01Lengths p) (length d) ≡ length d = rw (table-right p (b .0) ∙ h) in
+      let all : spanOf (lengthIn mode01Lengths p) (length d) ≡ length d = rw (table-right p (b .0) ∙ h) (omega arith) in
       walk-first lengths e p (length d) d (span-alone p d (lengthIn lengths p) (b .0) h i refl) ∙
       ap (λ vs. value p e (take (length d) d) ∷ vs) (ap (walked lengths e) none-left ∙ walked-nil lengths e ∙ sym (ap (walked mode01Lengths e) none-left ∙ walked-nil mode01Lengths e)) ∙
       sym (walk-first mode01Lengths e p (length d) d all)
@@ -105,12 +107,12 @@ Right L p (some n) = n ≡ L p
 
 agreed-right : (L : ℕ → ℕ) (p : ℕ) (ns : List ℕ) → EachRight L p ns → Right L p (agreed ns)
 agreed-right L p [] r = tt
-agreed-right L p (n ∷ ns) r = by-test (allEqual n ns) (λ t. rw t (r .0)) (λ t. rw t tt)
+agreed-right L p (n ∷ ns) r = by-test (any (λ m. not (eqb n m)) ns) (λ t. rw t tt) (λ t. rw t (r .0))
 
 entry : (n m : ℕ) → entryLength n ≡ some m → n ≡ m
 entry n m q = by-test (ltb n unknown) (λ t. let r = rw t at q in cc) (λ t. let r = rw t at q in from-no cc)
 
-kept : (L : ℕ → ℕ) (lengths : List ℕ) (p : ℕ) (o : Option ℕ) → p < 256 → j1979 p ≡ none → Right L p o → Agree L lengths → Agree L (withLength lengths p o)
+kept : (L : ℕ → ℕ) (lengths : List ℕ) (p : ℕ) (o : Option ℕ) → p < 256 → j1979 p ≡ none → Right L p o → Agree L lengths → Agree L (withLength lengths p none o)
 kept L lengths p none b h r a = a
 kept L lengths p (some n) b h r a = record {
   known = λ q m c i. ap entryLength (getD-set-other lengths p q n 0 (λ z. from-no cc)) ∙ a .known q m c i;
@@ -129,7 +131,8 @@ outside : (L : ℕ → ℕ) (lengths : List ℕ) (p : ℕ) (o : Option ℕ) → 
 outside L lengths p none b a i q = i
 outside L lengths p (some n) b a i q = from-no (cc (a .known p n b i))
 
-learned-by : (L : ℕ → ℕ) (lengths : List ℕ) (p : ℕ) (ls : List Line) (o : Option ℕ) → p < 256 → Agree L lengths → GoodLines L ls → lengthIn lengths p ≡ o → Agree L (learnUnknown lengths p ls o)
+learned-by : (L : ℕ → ℕ) (lengths : List ℕ) (p : ℕ) (ls : List Line) (o : Option ℕ) → p < 256 → Agree L lengths → GoodLines L ls → lengthIn lengths p ≡ o →
+    Agree L (withLength lengths p o (agreed (shownLengths p ls)))
 learned-by L lengths p ls (some n) b a g q = a
 learned-by L lengths p ls none b a g q =
     let h = outside L lengths p (j1979 p) b a refl q in

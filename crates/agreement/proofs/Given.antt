@@ -23,13 +23,15 @@ use Rattle.agreement.specs.Vehicle.{givenEcu, owed, takes, givenLine, gi
 use Rattle.agreement.proofs.ReplyBack.{known}
 
 -- cut at the line's end or not, the same bytes are taken and the same are left
-take-span : (o : Option ℕ) (s : List ℕ) → take (spanOf o (length s)) s ≡ take (owed o (length s)) s
-take-span none s = refl
-take-span (some n) s = sym (take-min n (length s) s) ∙ ap (take n) (take-all (length s) s (omega arith))
+take-cut : (n : ℕ) (s : List ℕ) → take (min n (length s)) s ≡ take n s
+take-cut n s = sym (take-min n (length s) s) ∙ ap (take n) (take-all (length s) s (omega arith))
 
-drop-span : (o : Option ℕ) (s : List ℕ) → drop (spanOf o (length s)) s ≡ drop (owed o (length s)) s
-drop-span none s = refl
-drop-span (some n) s =
+take-span : (o : Option ℕ) (s : List ℕ) → take (spanOf o (length s)) s ≡ take (owed o (length s)) s
+take-span none s = take-cut (length s) s
+take-span (some n) s = take-cut n s
+
+drop-cut : (n : ℕ) (s : List ℕ) → drop (min n (length s)) s ≡ drop n s
+drop-cut n s =
     by-test (leb n (length s))
     (λ t.
     let h = leb-true n (length s) t in
@@ -40,6 +42,10 @@ drop-span (some n) s =
     let past : length s ≤ n = omega arith in
     let cut : length s ≤ min n (length s) = omega arith in
     drop-of-length-le s cut ∙ sym (drop-of-length-le s past))
+
+drop-span : (o : Option ℕ) (s : List ℕ) → drop (spanOf o (length s)) s ≡ drop (owed o (length s)) s
+drop-span none s = drop-cut (length s) s
+drop-span (some n) s = drop-cut n s
 
 -- n bytes are still owed: they come first, and then the walk goes on
 takes-walk : (e n : ℕ) (s : List ℕ) → Bytes s → takes e n s ≡ record { own = take n s; later = walked mode01Lengths e (drop n s) }

@@ -7,7 +7,11 @@ use Prim.Native.String.{String}
 use Rattle.wire.specs.Text.{ascii, same, begins}
 use Rattle.client_state.specs.Settings.{Settings, fresh}
 use Rattle.at_command.specs.declared.AtKind.{AtKind}
-use Rattle.at_command.specs.declared.AtKind.the-variants.{Reset, Echo, Linefeeds, Spaces, Headers, Voltage, Protocol, ProtocolNumber, Accepted, Ati, Device, Unknown}
+use Rattle.at_command.specs.declared.AtKind.the-variants.{Reset, Set, Accepted, Identity, Voltage, Protocol, ProtocolNumber, Unknown}
+use Rattle.at_command.specs.declared.Setting.{Setting}
+use Rattle.at_command.specs.declared.Setting.the-variants.{Echo, Linefeeds, Spaces, Headers}
+use Rattle.at_command.specs.declared.IdentityText.{IdentityText}
+use Rattle.at_command.specs.declared.IdentityText.the-variants.{Ati, Device}
 
 abbrev pub isText : List ℕ → String → Bool
 isText c t = same c (ascii t)
@@ -19,37 +23,45 @@ startsWith c t = begins c (ascii t)
 unfoldable pub atKind : List ℕ → AtKind
 atKind c =
     cond (isText c "ATZ") Reset
-    (cond (isText c "ATE0") (Echo false)
-    (cond (isText c "ATE1") (Echo true)
-    (cond (isText c "ATL0") (Linefeeds false)
-    (cond (isText c "ATL1") (Linefeeds true)
-    (cond (isText c "ATS0") (Spaces false)
-    (cond (isText c "ATS1") (Spaces true)
-    (cond (isText c "ATH0") (Headers false)
-    (cond (isText c "ATH1") (Headers true)
+    (cond (isText c "ATE0") (Set Echo false)
+    (cond (isText c "ATE1") (Set Echo true)
+    (cond (isText c "ATL0") (Set Linefeeds false)
+    (cond (isText c "ATL1") (Set Linefeeds true)
+    (cond (isText c "ATS0") (Set Spaces false)
+    (cond (isText c "ATS1") (Set Spaces true)
+    (cond (isText c "ATH0") (Set Headers false)
+    (cond (isText c "ATH1") (Set Headers true)
     (cond (isText c "ATRV") Voltage
     (cond (isText c "ATDP") Protocol
     (cond (isText c "ATDPN") ProtocolNumber
     (cond (startsWith c "ATSP") Accepted
     (cond (startsWith c "ATST") Accepted
     (cond (startsWith c "ATAT") Accepted
-    (cond (isText c "ATI") Ati
-    (cond (isText c "AT@1") Device Unknown))))))))))))))))
+    (cond (isText c "ATI") (Identity Ati)
+    (cond (isText c "AT@1") (Identity Device) Unknown))))))))))))))))
+
+-- the settings with a switch turned on or off
+abbrev pub withSetting : Setting → Bool → Settings → Settings
+withSetting Echo on s = record { echo = on; linefeeds = s .linefeeds; spaces = s .spaces; headers = s .headers; last = s .last }
+withSetting Linefeeds on s = record { echo = s .echo; linefeeds = on; spaces = s .spaces; headers = s .headers; last = s .last }
+withSetting Spaces on s = record { echo = s .echo; linefeeds = s .linefeeds; spaces = on; headers = s .headers; last = s .last }
+withSetting Headers on s = record { echo = s .echo; linefeeds = s .linefeeds; spaces = s .spaces; headers = on; last = s .last }
 
 -- the settings after it: ATZ makes all fresh, the last command with them
 abbrev pub kindSettings : AtKind → Settings → Settings
 kindSettings Reset s = fresh
-kindSettings (Echo on) s = record { echo = on; linefeeds = s .linefeeds; spaces = s .spaces; headers = s .headers; last = s .last }
-kindSettings (Linefeeds on) s = record { echo = s .echo; linefeeds = on; spaces = s .spaces; headers = s .headers; last = s .last }
-kindSettings (Spaces on) s = record { echo = s .echo; linefeeds = s .linefeeds; spaces = on; headers = s .headers; last = s .last }
-kindSettings (Headers on) s = record { echo = s .echo; linefeeds = s .linefeeds; spaces = s .spaces; headers = on; last = s .last }
+kindSettings (Set setting on) s = withSetting setting on s
+kindSettings Accepted s = s
+kindSettings (Identity which) s = s
 kindSettings Voltage s = s
 kindSettings Protocol s = s
 kindSettings ProtocolNumber s = s
-kindSettings Accepted s = s
-kindSettings Ati s = s
-kindSettings Device s = s
 kindSettings Unknown s = s
+
+-- "one of the two lent identity strings, handed back without copying"
+abbrev pub identityOf : {A : Type 0} → IdentityText → A → A → A
+identityOf Ati ati device = ati
+identityOf Device ati device = device
 
 abbrev says : String → List (List ℕ)
 says t = ascii t ∷ []
@@ -57,29 +69,10 @@ says t = ascii t ∷ []
 -- the lines of its answer, by the two lent identity strings: at a reset two empty ones come first
 abbrev pub kindLines : List ℕ → List ℕ → AtKind → List (List ℕ)
 kindLines ati device Reset = [] ∷ [] ∷ ati ∷ []
-kindLines ati device (Echo on) = says "OK"
-kindLines ati device (Linefeeds on) = says "OK"
-kindLines ati device (Spaces on) = says "OK"
-kindLines ati device (Headers on) = says "OK"
+kindLines ati device (Set setting on) = says "OK"
+kindLines ati device Accepted = says "OK"
+kindLines ati device (Identity which) = identityOf which ati device ∷ []
 kindLines ati device Voltage = says "12.6V"
 kindLines ati device Protocol = says "AUTO, ISO 15765-4 (CAN 11/500)"
 kindLines ati device ProtocolNumber = says "A6"
-kindLines ati device Accepted = says "OK"
-kindLines ati device Ati = ati ∷ []
-kindLines ati device Device = device ∷ []
 kindLines ati device Unknown = says "?"
-
--- "one of the two lent identity strings, handed back without copying": the device description for AT@1, else the ATI string
-abbrev pub identityOf : {A : Type 0} → AtKind → A → A → A
-identityOf Reset ati device = ati
-identityOf (Echo on) ati device = ati
-identityOf (Linefeeds on) ati device = ati
-identityOf (Spaces on) ati device = ati
-identityOf (Headers on) ati device = ati
-identityOf Voltage ati device = ati
-identityOf Protocol ati device = ati
-identityOf ProtocolNumber ati device = ati
-identityOf Accepted ati device = ati
-identityOf Ati ati device = ati
-identityOf Device ati device = device
-identityOf Unknown ati device = ati

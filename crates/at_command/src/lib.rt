@@ -4,30 +4,39 @@ ghost use lib.ListN.{drop};
 ghost use mathlib.Core.Bool.{true, false, cond};
 ghost use Rattle.wire.specs.Text.{same, begins};
 ghost use Rattle.client_state.specs.Settings.{settings};
-ghost use Rattle.at_command.specs.Dialect.{isText, startsWith, atKind, kindSettings, identityOf};
+ghost use Rattle.at_command.specs.Dialect.{isText, startsWith, atKind, withSetting, kindSettings, identityOf};
 use client_state::ClientState;
+
+// A switch among the settings.
+pub enum Setting {
+    Echo,
+    Linefeeds,
+    Spaces,
+    Headers,
+}
+
+// One of the two identity strings: ATI's, and AT@1's device description.
+pub enum IdentityText {
+    Ati,
+    Device,
+}
 
 // What an AT command is to the server.
 pub enum AtKind {
     // ATZ
     Reset,
     // ATE0, ATE1 and so on: off or on
-    Echo(bool),
-    Linefeeds(bool),
-    Spaces(bool),
-    Headers(bool),
+    Set(Setting, bool),
+    // ATSP.., ATST.., ATAT..: taken, with no effect here
+    Accepted,
+    // ATI, AT@1
+    Identity(IdentityText),
     // ATRV
     Voltage,
     // ATDP
     Protocol,
     // ATDPN
     ProtocolNumber,
-    // ATSP.., ATST.., ATAT..: taken, with no effect here
-    Accepted,
-    // ATI
-    Ati,
-    // AT@1
-    Device,
     Unknown,
 }
 
@@ -57,34 +66,35 @@ fn accepted(command: &[u8], text: &[u8]) -> AtKind
 }
 
 // A switch: 0 after the letter turns it off, 1 on.
-fn switched(command: &[u8], off: AtKind, on: AtKind) -> AtKind
-    ensures { λ r. ⌜ r ≡ cond (isText (drop 3 (now (command .entry))) "0") off (cond (isText (drop 3 (now (command .entry))) "1") on AtKind.Unknown) ⌝ }
+fn switched(command: &[u8], setting: Setting) -> AtKind
+    ensures { λ r. ⌜ r ≡ cond (isText (drop 3 (now (command .entry))) "0") (AtKind.Set setting false)
+        (cond (isText (drop 3 (now (command .entry))) "1") (AtKind.Set setting true) AtKind.Unknown) ⌝ }
 {
     if command.len() != 4 {
         return AtKind::Unknown;
     }
     let digit = command[3];
     if digit == b'0' {
-        return off;
+        return AtKind::Set(setting, false);
     }
     if digit == b'1' {
-        return on;
+        return AtKind::Set(setting, true);
     }
     AtKind::Unknown
 }
 
 // ATS0 and ATS1, or what starts with ATSP or ATST.
 fn ats_kind(command: &[u8]) -> AtKind
-    ensures { λ r. ⌜ r ≡ cond (isText (now (command .entry)) "ATS0") (AtKind.Spaces false)
-        (cond (isText (now (command .entry)) "ATS1") (AtKind.Spaces true)
+    ensures { λ r. ⌜ r ≡ cond (isText (now (command .entry)) "ATS0") (AtKind.Set Setting.Spaces false)
+        (cond (isText (now (command .entry)) "ATS1") (AtKind.Set Setting.Spaces true)
         (cond (startsWith (now (command .entry)) "ATSP") AtKind.Accepted
         (cond (startsWith (now (command .entry)) "ATST") AtKind.Accepted AtKind.Unknown))) ⌝ }
 {
     if wire::same(command, b"ATS0") {
-        return AtKind::Spaces(false);
+        return AtKind::Set(Setting::Spaces, false);
     }
     if wire::same(command, b"ATS1") {
-        return AtKind::Spaces(true);
+        return AtKind::Set(Setting::Spaces, true);
     }
     if wire::begins(command, b"ATSP") {
         return AtKind::Accepted;
@@ -116,43 +126,55 @@ pub fn at_kind(command: &[u8]) -> AtKind
     let letter = command[2];
     match letter {
         b'Z' => one_text(command, b"ATZ", AtKind::Reset),
-        b'E' => switched(command, AtKind::Echo(false), AtKind::Echo(true)),
-        b'L' => switched(command, AtKind::Linefeeds(false), AtKind::Linefeeds(true)),
+        b'E' => switched(command, Setting::Echo),
+        b'L' => switched(command, Setting::Linefeeds),
         b'S' => ats_kind(command),
-        b'H' => switched(command, AtKind::Headers(false), AtKind::Headers(true)),
+        b'H' => switched(command, Setting::Headers),
         b'R' => one_text(command, b"ATRV", AtKind::Voltage),
         b'D' => atd_kind(command),
         b'A' => accepted(command, b"ATAT"),
-        b'I' => one_text(command, b"ATI", AtKind::Ati),
-        b'@' => one_text(command, b"AT@1", AtKind::Device),
+        b'I' => one_text(command, b"ATI", AtKind::Identity(IdentityText::Ati)),
+        b'@' => one_text(command, b"AT@1", AtKind::Identity(IdentityText::Device)),
         _ => AtKind::Unknown,
     }
+}
+
+// The settings with a switch turned.
+fn with_setting(state: ClientState, setting: Setting, on: bool) -> ClientState
+    ensures { λ r. ⌜ settings r ≡ withSetting setting on (settings state) ⌝ }
+{
+    let mut next = state;
+    match setting {
+        Setting::Echo => {
+            next.echo_enabled = on;
+        }
+        Setting::Linefeeds => {
+            next.linefeeds_enabled = on;
+        }
+        Setting::Spaces => {
+            next.spaces_enabled = on;
+        }
+        Setting::Headers => {
+            next.headers_enabled = on;
+        }
+    }
+    next
 }
 
 // The settings after a command of a kind.
 fn with_kind(state: ClientState, kind: AtKind) -> ClientState
     ensures { λ r. ⌜ settings r ≡ kindSettings kind (settings state) ⌝ }
 {
-    let mut next = state;
     match kind {
-        AtKind::Reset => {
-            return ClientState::default();
-        }
-        AtKind::Echo(on) => {
-            next.echo_enabled = on;
-        }
-        AtKind::Linefeeds(on) => {
-            next.linefeeds_enabled = on;
-        }
-        AtKind::Spaces(on) => {
-            next.spaces_enabled = on;
-        }
-        AtKind::Headers(on) => {
-            next.headers_enabled = on;
-        }
-        _ => {}
+        AtKind::Reset => ClientState::default(),
+        AtKind::Set(setting, on) => with_setting(state, setting, on),
+        AtKind::Accepted => state,
+        AtKind::Identity(_) => state,
+        AtKind::Voltage => state,
+        AtKind::Protocol => state,
+        AtKind::ProtocolNumber => state,
+        AtKind::Unknown => state,
     }
-    next
 }
 
 // An AT command: the settings after it, and what it is, by which it is answered.
@@ -175,13 +197,12 @@ pub fn handle_at_command(state: &mut ClientState, command: &[u8]) -> AtKind
     kind
 }
 
-// The identity string that answers a command, one of the two lent: the device description for AT@1, else the ATI one.
-pub fn identity_text<'a>(ati: &'a [u8], device: &'a [u8], kind: AtKind) -> &'a [u8]
-    ensures { λ r. ⌜ r ≡ identityOf kind (ati .entry) (device .entry) ⌝ }
+// The identity string that answers ATI or AT@1, one of the two lent.
+pub fn identity_text<'a>(ati: &'a [u8], device: &'a [u8], which: IdentityText) -> &'a [u8]
+    ensures { λ r. ⌜ r ≡ identityOf which (ati .entry) (device .entry) ⌝ }
 {
-    if let AtKind::Device = kind {
-        device
-    } else {
-        ati
+    match which {
+        IdentityText::Ati => ati,
+        IdentityText::Device => device,
     }
 }

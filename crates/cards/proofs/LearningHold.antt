@@ -1,5 +1,6 @@
 -- The examples of finishing a query hold, by computation.
 use mathlib.Core.Path.{refl}
+use Rattle.wire.specs.Answer.{unless}
 use Rattle.wire.specs.Text.{isSpace, raised, has, high}
 use Rattle.hex.specs.Digits.{hexDigit}
 use Rattle.hex.specs.Read.{digit, leading}
@@ -21,5 +22,5 @@ use Rattle.cards.specs.Example.{AsExpected}
 use Rattle.cards.specs.Learning.{learning}
 
 pub learning-holds : AsExpected learning
-unfolding isSpace raised has high hexDigit digit leading j1979 mode01Lengths groupBytes valueFormat queryText textLines textLine replyLines walked answerOrder learnLength readReply framingEffect commandSays queryPidSays queryPidsSays replyTakes pieceSays finishSays
+unfolding isSpace raised has high hexDigit digit leading j1979 mode01Lengths groupBytes valueFormat queryText textLines textLine replyLines walked answerOrder learnLength unless readReply framingEffect commandSays queryPidSays queryPidsSays replyTakes pieceSays finishSays
 learning-holds = (refl, (refl, (refl, (refl, (refl, (refl, (refl, (refl, (refl, (refl, (refl, (refl, (refl, (refl, (refl, (refl, (refl, (refl, (refl, (refl, tt))))))))))))))))))))

@@ -7,7 +7,7 @@ use lib.ListN.{length, replicate}
 use Rattle.wire.specs.Answer.{result, refused, number}
 use Rattle.wire.specs.declared.Refusal.the-variants.{OutOfTurn, PidCount, TooLong, NotAscii, Malformed, SmallBuffer, Disconnected, ReplyTooLong, ReplyNotAscii, LineFull, ByteNotAscii}
 use Rattle.wire.specs.Text.{ascii}
-use Rattle.at_command.specs.Dialect.{atKind, identityOf}
+use Rattle.at_command.specs.Dialect.{atKind, kindLines}
 use Rattle.reply.specs.Shape.{chipReply}
 use Rattle.reply.specs.Answers.{replied, replyWritten}
 use Rattle.reply.specs.Steps.{replySize}
@@ -111,7 +111,7 @@ server =
     (answerSays 48 freshSession [] [] .answer ∷ answerSays 48 (handed freshSession "ATRV") [] (replicate 33 65) .answer ∷
     answerSays 48 (handed freshSession "ATRV") (0x80 ∷ []) [] .answer ∷ answerSays 47 (handed freshSession "ATRV") [] [] .answer ∷ [])
     (refused 1 ∷ refused 3 ∷ refused 4 ∷ refused 6 ∷ []) ∷
-    example "the identity strings of ATI and AT@1" (map (λ (c : List ℕ). identityOf (atKind c) (ascii "ELM327 v1.5") (ascii "ELM327")) (ascii "ATI" ∷ ascii "AT@1" ∷ [])) (ascii "ELM327 v1.5" ∷ ascii "ELM327" ∷ []) ∷
+    example "the identity strings of ATI and AT@1" (map (λ (c : List ℕ). kindLines (ascii "ELM327 v1.5") (ascii "ELM327") (atKind c)) (ascii "ATI" ∷ ascii "AT@1" ∷ [])) ((ascii "ELM327 v1.5" ∷ []) ∷ (ascii "ELM327" ∷ []) ∷ []) ∷
     example "an exchange" (exchanged 60 freshSession (ascii "AT@1\r") speedLine) (record { next = freshSession; text = ended "AT@1\rELM327"; handed = [] }) ∷
     example "what an exchange sends for a query" (exchanged 60 freshSession (ascii "010D\r") speedLine .text) (ended "010D\r41 0D 20") ∷
     example "and hands out" (exchanged 60 freshSession (ascii "010D\r") speedLine .handed) (ascii "010D" ∷ []) ∷

@@ -2,30 +2,31 @@
 use mathlib.Core.Path.{_≡_, refl, sym, ap, _∙_}
 use mathlib.Core.Bool.{Bool, true, false, cond}
 use mathlib.Core.List.{List, [], _∷_, _++_, map}
-use Prim.Native.Nat.{ℕ, zero, suc, _+_, _≤_, _<_}
+use Prim.Native.Nat.{ℕ, zero, suc, _+_, _-_, _≤_, _<_}
 use native.Mathlib.Omega.{arith}
 use lib.Dec.{eqb}
 use lib.ListN.{length, drop, getD, length-map, List·getD-map}
-use borrow.Author.Tests.{eq-eqb, ne-eqb}
+use borrow.Author.Tests.{eq-eqb, ne-eqb, eqb-true}
 use Rattle.wire.specs.Text.{ascii, begins, raised}
 use Rattle.wire.proofs.Cases.{by-test}
 use Rattle.wire.proofs.TextLaws.{same-begins, same-long, begins-differ, begins-next}
 use Rattle.client_command.specs.Commands.{withCR, isCommand, setupText}
 
--- a raw command's text by its last byte, at n
-pub cr-there : (s : List ℕ) (n : ℕ) → length s ≡ n + 1 → getD s n 0 ≡ 13 → withCR s ≡ s
-cr-there [] n h e = absurd (omega arith)
-cr-there (b ∷ []) zero h e = rw (eq-eqb b 13 e, e)
-cr-there (b ∷ []) (suc n) h e = absurd (omega arith)
-cr-there (b ∷ c ∷ s) zero h e = absurd (omega arith)
-cr-there (b ∷ c ∷ s) (suc n) h e = ap (λ t. b ∷ t) (cr-there (c ∷ s) n (omega arith) e)
+-- a raw command's text by its last byte, which stands at n
+cr-at : (s : List ℕ) (n : ℕ) → length s ≡ n + 1 → withCR s ≡ cond (eqb (getD s n 0) 13) s (s ++ (13 ∷ []))
+cr-at [] n h = absurd (omega arith)
+cr-at (b ∷ []) zero h = by-test (eqb b 13) (λ e. rw (e, eqb-true b 13 e)) (λ e. rw e)
+cr-at (b ∷ []) (suc n) h = absurd (omega arith)
+cr-at (b ∷ c ∷ s) zero h = absurd (omega arith)
+cr-at (b ∷ c ∷ s) (suc n) h =
+    ap (λ t. b ∷ t) (cr-at (c ∷ s) n (omega arith)) ∙ by-test (eqb (getD (c ∷ s) n 0) 13) (λ e. rw e) (λ e. rw e)
 
-pub cr-added : (s : List ℕ) (n : ℕ) → length s ≡ n + 1 → (getD s n 0 ≡ 13 → ⊥) → withCR s ≡ s ++ (13 ∷ [])
-cr-added [] n h ne = absurd (omega arith)
-cr-added (b ∷ []) zero h ne = rw (ne-eqb b 13 ne)
-cr-added (b ∷ []) (suc n) h ne = absurd (omega arith)
-cr-added (b ∷ c ∷ s) zero h ne = absurd (omega arith)
-cr-added (b ∷ c ∷ s) (suc n) h ne = ap (λ t. b ∷ t) (cr-added (c ∷ s) n (omega arith) ne)
+module _ (s : List ℕ) (some : length s ≡ 0 → ⊥) where
+  pub cr-there : getD s (length s - 1) 0 ≡ 13 → withCR s ≡ s
+  cr-there e = cr-at s (length s - 1) (omega arith) ∙ rw (eq-eqb (getD s (length s - 1) 0) 13 e)
+
+  pub cr-added : (getD s (length s - 1) 0 ≡ 13 → ⊥) → withCR s ≡ s ++ (13 ∷ [])
+  cr-added e = cr-at s (length s - 1) (omega arith) ∙ rw (ne-eqb (getD s (length s - 1) 0) 13 e)
 
 pub cr-alone : (s : List ℕ) → length s ≡ 0 → withCR s ≡ s ++ (13 ∷ [])
 cr-alone [] e = refl
@@ -57,12 +58,12 @@ pub command-long : (s t : List ℕ) → (length s ≡ length t → ⊥) → isCo
 command-long s t ne = same-long (map raised s) t (λ e. ne (sym (length-map s raised) ∙ e))
 
 -- the last command of the initialisation
-pub setup-last : (framing : Bool) (k : ℕ) → 4 ≤ k → setupText framing k ≡ cond framing (ascii "ATH1\r") (ascii "ATH0\r")
-setup-last framing zero h = absurd (omega arith)
-setup-last framing (suc zero) h = absurd (omega arith)
-setup-last framing (suc (suc zero)) h = absurd (omega arith)
-setup-last framing (suc (suc (suc zero))) h = absurd (omega arith)
-setup-last framing (suc (suc (suc (suc k)))) h = refl
+pub setup-last : (framing : Bool) (k : ℕ) → (k ≡ 0 → ⊥) → (k ≡ 1 → ⊥) → (k ≡ 2 → ⊥) → (k ≡ 3 → ⊥) → setupText framing k ≡ cond framing (ascii "ATH1\r") (ascii "ATH0\r")
+setup-last framing zero a b c d = absurd (a refl)
+setup-last framing (suc zero) a b c d = absurd (b refl)
+setup-last framing (suc (suc zero)) a b c d = absurd (c refl)
+setup-last framing (suc (suc (suc zero))) a b c d = absurd (d refl)
+setup-last framing (suc (suc (suc (suc k)))) a b c d = refl
 
 -- a command of the initialisation has at most six bytes
 pub setup-length : (framing : Bool) (k : ℕ) → length (setupText framing k) ≤ 6

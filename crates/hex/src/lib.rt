@@ -5,20 +5,16 @@ ghost use Prim.Native.Nat.{_%_};
 ghost use Rattle.wire.specs.Put.{Put};
 ghost use Rattle.hex.specs.Read.{digit, leading, hexNumber};
 ghost use Rattle.hex.specs.Digits.{hexDigit, hexByte, hexId};
-ghost use Rattle.hex.specs.Answers.{digitOf, byteOf, idOf};
+ghost use Rattle.hex.specs.Answers.{digitOf, hexOf};
 
 pub enum HexDigit {
     Digit(u8),
     Bad,
 }
 
-pub enum HexByte {
-    Byte(u8),
-    Bad,
-}
-
-pub enum HexId {
-    Id(u16),
+// The number of a pair or an id.
+pub enum HexNumber {
+    Number(u16),
     Bad,
 }
 
@@ -44,30 +40,30 @@ fn leading_digit(c: u8) -> HexDigit
     hex_digit(c)
 }
 
-// Two characters as a byte.
-pub fn hex_pair(a: u8, b: u8) -> HexByte
-    ensures { λ r. ⌜ byteOf r ≡ hexNumber (a ∷ b ∷ []) ⌝ }
+// Two characters as a number, which a byte holds.
+pub fn hex_pair(a: u8, b: u8) -> HexNumber
+    ensures { λ r. ⌜ hexOf r ≡ hexNumber (a ∷ b ∷ []) ⌝ }
 {
     let HexDigit::Digit(high) = leading_digit(a) else {
-        return HexByte::Bad;
+        return HexNumber::Bad;
     };
     let HexDigit::Digit(low) = hex_digit(b) else {
-        return HexByte::Bad;
+        return HexNumber::Bad;
     };
-    HexByte::Byte(16 * high + low)
+    HexNumber::Number(16 * (high as u16) + (low as u16))
 }
 
 // Three characters as an id: a pair and one digit more.
-pub fn hex_id(a: u8, b: u8, c: u8) -> HexId
-    ensures { λ r. ⌜ idOf r ≡ hexNumber (a ∷ b ∷ c ∷ []) ⌝ }
+pub fn hex_id(a: u8, b: u8, c: u8) -> HexNumber
+    ensures { λ r. ⌜ hexOf r ≡ hexNumber (a ∷ b ∷ c ∷ []) ⌝ }
 {
-    let HexByte::Byte(high) = hex_pair(a, b) else {
-        return HexId::Bad;
+    let HexNumber::Number(high) = hex_pair(a, b) else {
+        return HexNumber::Bad;
     };
     let HexDigit::Digit(low) = hex_digit(c) else {
-        return HexId::Bad;
+        return HexNumber::Bad;
     };
-    HexId::Id(16 * (high as u16) + (low as u16))
+    HexNumber::Number(16 * high + (low as u16))
 }
 
 // The capital digit of a number's low half.

@@ -2,16 +2,17 @@
 use mathlib.Core.Path.{_≡_, refl, ap, _∙_}
 use mathlib.Core.Bool.{Bool, true, false, _||_}
 use mathlib.Core.Logic.{_⊎_, inl, inr, ⊎-elim}
-use mathlib.Core.Option.{Option, none, some}
+use mathlib.Core.Option.{Option, none, some, Option·getD}
 use Prim.Native.Nat.{ℕ, zero, suc, _+_, _≤_, _<_}
 use native.Mathlib.Nat.{add-zero, add-suc, suc-add}
 use native.Mathlib.Omega.{arith}
-use lib.Dec.{T, eqb, eqb→eq}
+use lib.Dec.{T, eqb, ltb, eqb→eq}
 use lib.ListN.{length, getD}
 use borrow.Author.Tests.{lt-ltb, eqb-true}
+use Rattle.wire.specs.Text.{passing}
 use Rattle.wire.proofs.Cases.{by-test, at-below}
 use Rattle.pid.specs.J1979.{j1979}
-use Rattle.pid.specs.Lengths.{unknown, marked, entryLength, entries, mode01Lengths, lengthIn, listed, isKnown, knownIn}
+use Rattle.pid.specs.Lengths.{unknown, entryLength, entries, mode01Lengths, lengthIn, listed}
 
 module _ (f : ℕ → ℕ) where
   entries-length : (i n : ℕ) → length (entries f i n) ≡ n
@@ -26,11 +27,11 @@ module _ (f : ℕ → ℕ) where
 -- an entry for each PID
 pub table-length : length mode01Lengths ≡ 256
 unfolding mode01Lengths
-table-length = entries-length (λ p. marked (j1979 p)) 0 256
+table-length = entries-length (λ p. Option·getD (j1979 p) unknown) 0 256
 
-pub table-entry : (p : ℕ) → p < 256 → getD mode01Lengths p 0 ≡ marked (j1979 p)
+pub table-entry : (p : ℕ) → p < 256 → getD mode01Lengths p 0 ≡ Option·getD (j1979 p) unknown
 unfolding mode01Lengths
-table-entry p h = entries-at (λ p. marked (j1979 p)) 0 256 p h ∙ ap (λ p. marked (j1979 p)) (omega arith)
+table-entry p h = entries-at (λ p. Option·getD (j1979 p) unknown) 0 256 p h ∙ ap (λ p. Option·getD (j1979 p) unknown) (omega arith)
 
 -- the test: a listed PID has 1, 2, 4 or 5 bytes, and any other none that is known
 abbrev sized : ℕ → Bool
@@ -45,16 +46,6 @@ right false (some n) = false
 rule : (p : ℕ) → p < 256 → T (right (listed p) (j1979 p))
 unfolding j1979
 rule = at-below 256 (λ p. right (listed p) (j1979 p)) tt
-
-known-of : (k : Bool) (o : Option ℕ) → T (right k o) → isKnown o ≡ k
-known-of true none t = absurd t
-known-of true (some n) t = refl
-known-of false none t = refl
-known-of false (some n) t = absurd t
-
--- the known set: 00 to 65, 80, A0, C0
-pub known-listed : (p : ℕ) → p < 256 → isKnown (j1979 p) ≡ listed p
-known-listed p h = known-of (listed p) (j1979 p) (rule p h)
 
 sized-of : (k : Bool) (n : ℕ) → T (right k (some n)) → (n ≡ 1) ⊎ ((n ≡ 2) ⊎ ((n ≡ 4) ⊎ (n ≡ 5)))
 sized-of false n t = absurd t
@@ -73,12 +64,22 @@ pub known-small : (p n : ℕ) → p < 256 → j1979 p ≡ some n → (1 ≤ n) �
 known-small p n h e =
     ⊎-elim (λ s. omega arith) (⊎-elim (λ s. omega arith) (⊎-elim (λ s. omega arith) (λ s. omega arith))) (known-sized p n h e)
 
+known-of : (k : Bool) (o : Option ℕ) → T (right k o) → ltb (Option·getD o unknown) unknown ≡ k
+known-of true none t = absurd t
+known-of true (some n) t = lt-ltb n unknown (⊎-elim (λ s. omega arith) (⊎-elim (λ s. omega arith) (⊎-elim (λ s. omega arith) (λ s. omega arith))) (sized-of true n t))
+known-of false none t = refl
+known-of false (some n) t = absurd t
+
+-- the known set: 00 to 65, 80, A0, C0
+pub known-listed : (p : ℕ) → p < 256 → ltb (getD mode01Lengths p 0) unknown ≡ listed p
+known-listed p h = rw (table-entry p h) (known-of (listed p) (j1979 p) (rule p h))
+
 -- 105 are known
-pub known-105 : knownIn mode01Lengths ≡ 105
+pub known-105 : length (passing (λ n. ltb n unknown) mode01Lengths) ≡ 105
 unfolding mode01Lengths j1979
 known-105 = refl
 
-marked-back : (o : Option ℕ) → ((n : ℕ) → o ≡ some n → n < unknown) → entryLength (marked o) ≡ o
+marked-back : (o : Option ℕ) → ((n : ℕ) → o ≡ some n → n < unknown) → entryLength (Option·getD o unknown) ≡ o
 marked-back none h = refl
 marked-back (some n) h = rw (lt-ltb n unknown (h n refl))
 

@@ -1,19 +1,19 @@
 -- Lines read back: a text of plain characters that ends in CR is one line of a reply, and capital hex in the framed form decodes to what it was written from.
 use mathlib.Core.Path.{_≡_, refl, ap, _∙_}
 use mathlib.Core.Bool.{true, false, not}
-use mathlib.Core.List.{List, [], _∷_, _++_}
+use mathlib.Core.List.{List, [], _∷_, _++_, reverseAux, reverse, reverse-reverse}
 use Prim.Native.Nat.{ℕ, suc, _≤_, _<_}
 use native.Mathlib.Omega.{arith}
 use lib.Dec.{T, eqb}
 use lib.ListN.{length}
-use borrow.Author.Tests.{le-leb, lt-leb, ne-eqb}
+use borrow.Author.Tests.{le-leb, lt-leb, lt-ltb, ne-eqb}
 use Rattle.wire.specs.Text.{has, isSpace}
 use Rattle.wire.proofs.Cases.{at-below}
 use Rattle.hex.specs.Digits.{hexDigit, hexByte, hexId, hexBytes}
 use Rattle.wire.proofs.All.{All, all-append}
 use Rattle.hex.proofs.DigitLaws.{digit-between, digits-all, bytes-all, bytes-back, id-back}
 use Rattle.line_list.specs.Lines.{line}
-use Rattle.reply_lines.specs.Lines.{splitCR, before, trimEnd, trimmed, stays, textLines, unspaced}
+use Rattle.reply_lines.specs.Lines.{splitCR, trimStart, trimmed, stays, textLines, unspaced}
 use Rattle.reply_lines.specs.Decode.{textLine}
 use Rattle.reply_lines.proofs.DecodeLaws.{line-framed}
 
@@ -29,17 +29,19 @@ plain-split : (s rest : List ℕ) → All Plain s → splitCR (s ++ (13 ∷ rest
 plain-split [] rest a = refl
 plain-split (c ∷ s) rest a = let h = a .0 .0 in rw (ne-eqb c 13 (omega arith), plain-split s rest (a .1))
 
-plain-end : (s : List ℕ) → All Plain s → trimEnd s ≡ s
-plain-end [] a = refl
-plain-end (c ∷ s) a = ap (before c) (plain-end s (a .1)) ∙ front s
-  where
-    front : (s : List ℕ) → before c s ≡ c ∷ s
-    front [] = rw (plain-space c (a .0 .0))
-    front (d ∷ s) = refl
+plain-start : (s : List ℕ) → All Plain s → trimStart s ≡ s
+plain-start [] a = refl
+plain-start (c ∷ s) a = rw (plain-space c (a .0 .0))
+
+plain-reversed : (s t : List ℕ) → All Plain s → All Plain t → All Plain (reverseAux s t)
+plain-reversed [] t a b = b
+plain-reversed (c ∷ s) t a b = plain-reversed s (c ∷ t) (a .1) (a .0, b)
 
 plain-trimmed : (s : List ℕ) → All Plain s → trimmed s ≡ s
-plain-trimmed [] a = refl
-plain-trimmed (c ∷ s) a = rw (plain-space c (a .0 .0)) (plain-end (c ∷ s) a)
+plain-trimmed s a =
+    ap (λ (t : List ℕ). reverse (trimStart (reverse t))) (plain-start s a)
+    ∙ ap reverse (plain-start (reverse s) (plain-reversed s [] a tt))
+    ∙ reverse-reverse s
 
 plain-prompt : (s : List ℕ) → All Plain s → has 62 s ≡ false
 unfolding has
@@ -47,8 +49,7 @@ plain-prompt [] a = refl
 plain-prompt (c ∷ s) a = rw (ne-eqb c 62 (a .0 .1), plain-prompt s (a .1))
 
 plain-stays : (s : List ℕ) → All Plain s → 0 < length s → stays s ≡ true
-plain-stays [] a h = absurd (omega arith)
-plain-stays (c ∷ s) a h = ap not (plain-prompt (c ∷ s) a)
+plain-stays s a h = rw (lt-ltb 0 (length s) h, plain-prompt s a)
 
 -- plain characters up to a CR are a line
 pub plain-line : (s rest : List ℕ) → All Plain s → 0 < length s → textLines (s ++ (13 ∷ rest)) ≡ s ∷ textLines rest

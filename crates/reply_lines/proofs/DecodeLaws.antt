@@ -2,8 +2,8 @@
 use mathlib.Core.Path.{_≡_, refl, sym, ap, _∙_}
 use mathlib.Core.Bool.{Bool, true, false}
 use mathlib.Core.List.{List, [], _∷_, _++_, append-nil, append-assoc}
-use mathlib.Core.Option.{Option, none, some}
-use Prim.Native.Nat.{ℕ, suc, _+_, _≤_, _<_}
+use mathlib.Core.Option.{Option, none, some, Option·getD}
+use Prim.Native.Nat.{ℕ, suc, _+_, _*_, _≤_, _<_}
 use native.Mathlib.Numerals.{add-one}
 use native.Mathlib.Omega.{arith}
 use lib.Dec.{eqb, ltb}
@@ -18,8 +18,7 @@ use Rattle.wire.proofs.All.{All, all-append}
 use Rattle.hex.proofs.ReadLaws.{Below, number-small}
 use Rattle.line_list.specs.Lines.{Line, line}
 use Rattle.reply_lines.specs.Lines.{unspaced}
-use Rattle.reply_lines.specs.Decode.{orZero, textLine}
-use Rattle.reply_lines.specs.Answers.{DecodedAs}
+use Rattle.reply_lines.specs.Decode.{textLine, DecodedAs}
 use Rattle.reply_lines.specs.Steps.{CharAt, HeadOf}
 use Rattle.reply_lines.specs.declared.Decoded.{Decoded}
 use Rattle.reply_lines.specs.declared.Head.{Head}
@@ -62,7 +61,7 @@ unfolding textLine
 line-short text h = rw (lt-ltb (length (unspaced text)) 5 h)
 
 pub line-framed : (text chars rest : List ℕ) → unspaced text ≡ chars ++ rest → length chars ≡ 5 →
-    textLine true text ≡ line (suc (orZero (hexNumber (getD chars 0 0 ∷ getD chars 1 0 ∷ getD chars 2 0 ∷ [])))) (pairBytes rest)
+    textLine true text ≡ line (suc (Option·getD (hexNumber (getD chars 0 0 ∷ getD chars 1 0 ∷ getD chars 2 0 ∷ [])) 0)) (pairBytes rest)
 unfolding textLine
 line-framed text [] rest q h = absurd (omega arith)
 line-framed text (a ∷ []) rest q h = absurd (omega arith)
@@ -80,7 +79,7 @@ module _ (text : List ℕ) (h : Head) (p : HeadOf text h) where
       line-short text (omega (arith, ap length q, length-take (h .len) (h .chars))) ∙ rw q
 
   pub head-framed : 5 ≤ h .len →
-      textLine true text ≡ line (suc (orZero (hexNumber (getD (h .chars) 0 0 ∷ getD (h .chars) 1 0 ∷ getD (h .chars) 2 0 ∷ [])))) (pairBytes (unspaced (drop (h .next) text)))
+      textLine true text ≡ line (suc (Option·getD (hexNumber (getD (h .chars) 0 0 ∷ getD (h .chars) 1 0 ∷ getD (h .chars) 2 0 ∷ [])) 0)) (pairBytes (unspaced (drop (h .next) text)))
   head-framed k =
       let t : take (h .len) (h .chars) ≡ h .chars = take-all (h .len) (h .chars) (omega (arith, p .five)) in
       line-framed text (h .chars) (unspaced (drop (h .next) text)) (p .whole ∙ rw t) (p .five)
@@ -89,7 +88,7 @@ module _ (text : List ℕ) (h : Head) (p : HeadOf text h) where
 
 -- what holds of the three forms of a line holds of the line
 by-form : (P : Line → Type 0) (framing : Bool) (text : List ℕ) → P (line 0 (pairBytes (unspaced text))) → P (line 0 (unspaced text)) →
-    (5 ≤ length (unspaced text) → P (line (suc (orZero (hexNumber (take 3 (unspaced text))))) (pairBytes (drop 5 (unspaced text))))) → P (textLine framing text)
+    (5 ≤ length (unspaced text) → P (line (suc (Option·getD (hexNumber (take 3 (unspaced text))) 0)) (pairBytes (drop 5 (unspaced text))))) → P (textLine framing text)
 unfolding textLine
 by-form P false text pairs chars framed = pairs
 by-form P true text pairs chars framed =
@@ -97,7 +96,7 @@ by-form P true text pairs chars framed =
     (λ e. rw e chars)
     (λ e. rw e (framed (ltb-false (length (unspaced text)) 5 e)))
 
-unspaced-length : (s : List ℕ) → length (unspaced s) ≤ length s
+pub unspaced-length : (s : List ℕ) → length (unspaced s) ≤ length s
 unspaced-length [] = omega arith
 unspaced-length (c ∷ s) = by-test (eqb c 32) (λ e. rw e (omega (arith, unspaced-length s))) (λ e. rw e (omega (arith, unspaced-length s)))
 
@@ -105,20 +104,21 @@ kept-length : (o : Option ℕ) → length (kept o) ≤ 1
 kept-length none = omega arith
 kept-length (some n) = omega arith
 
-pairs-length : (s : List ℕ) → length (pairBytes s) ≤ length s
-pairs-length [] = omega arith
-pairs-length (a ∷ []) = omega arith
-pairs-length (a ∷ b ∷ s) =
-    omega (arith, length-append (kept (hexNumber (a ∷ b ∷ []))) (pairBytes s), kept-length (hexNumber (a ∷ b ∷ [])), pairs-length s)
+-- two characters give a byte at most
+pub pairs-half : (s : List ℕ) → 2 * length (pairBytes s) ≤ length s
+pairs-half [] = omega arith
+pairs-half (a ∷ []) = omega arith
+pairs-half (a ∷ b ∷ s) =
+    omega (arith, length-append (kept (hexNumber (a ∷ b ∷ []))) (pairBytes s), kept-length (hexNumber (a ∷ b ∷ [])), pairs-half s)
 
 -- its data are no longer than its text
 pub data-fits : (framing : Bool) (text : List ℕ) → length (textLine framing text .bytes) ≤ length text
 data-fits framing text =
     let s = unspaced text in
     by-form (λ l. length (l .bytes) ≤ length text) framing text
-    (omega (arith, pairs-length s, unspaced-length text))
+    (omega (arith, pairs-half s, unspaced-length text))
     (unspaced-length text)
-    (λ h. omega (arith, pairs-length (drop 5 s), length-drop 5 s, unspaced-length text))
+    (λ h. omega (arith, pairs-half (drop 5 s), length-drop 5 s, unspaced-length text))
 
 -- ECU+1 is at most 4096
 pub line-ecu : (framing : Bool) (text : List ℕ) → textLine framing text .ecu ≤ 4096
@@ -127,7 +127,7 @@ line-ecu framing text =
     by-form (λ l. l .ecu ≤ 4096) framing text (omega arith) (omega arith)
     (λ h. id-small (hexNumber (take 3 s)) (rw (length-take-le 3 s (omega arith)) at (number-small (take 3 s))))
   where
-    id-small : (o : Option ℕ) → Below 4096 o → suc (orZero o) ≤ 4096
+    id-small : (o : Option ℕ) → Below 4096 o → suc (Option·getD o 0) ≤ 4096
     id-small none b = omega arith
     id-small (some n) b = omega arith
 

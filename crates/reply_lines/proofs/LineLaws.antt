@@ -6,33 +6,33 @@ use mathlib.Core.Option.{Option, none, some}
 use Prim.Native.Nat.{ℕ, zero, suc, _+_, _-_, _≤_, _<_, min}
 use native.Mathlib.Omega.{arith}
 use lib.Dec.{ltb}
-use lib.ListN.{length, take, drop, getD}
+use lib.ListN.{length, drop}
 use borrow.Author.Tests.{ltb-true, ltb-false}
 use Rattle.wire.proofs.Cases.{by-test}
 use Rattle.reply_lines.specs.Lines.{trimStart, trimmed, stays, textLines}
 use Rattle.reply_lines.specs.Decode.{textLine, replyLines}
-use Rattle.reply_lines.specs.Answers.{lineStep, lineFrom}
+use Rattle.reply_lines.specs.Reader.{TextPlace, textStep, lineFrom, stepText}
 use Rattle.reply_lines.specs.Steps.{toCR}
-use Rattle.reply_lines.specs.declared.LineStep.{LineStep}
-use Rattle.reply_lines.specs.declared.LineStep.the-variants as step
+use Rattle.reply_lines.specs.declared.TextStep.{TextStep}
+use Rattle.reply_lines.specs.declared.TextStep.the-variants as step
 use Rattle.reply_lines.proofs.TurnLaws.{part, cr-inside, next-after, text-fits, end-fits, text-part, text-line, text-skip, text-end, from-line, from-skip, from-end}
 
 -- the next line that stays, from position at on
-pub record LineHere (reply : List ℕ) (at start end next : ℕ) : Type 0 where
-  pub starts : at ≤ start
-  pub ordered : start ≤ end
-  pub inside : end ≤ next
-  pub after : at < next
-  pub within : next ≤ length reply
-  pub reads : textLines (drop at reply) ≡ take (end - start) (drop start reply) ∷ textLines (drop next reply)
+pub record LineHere (reply : List ℕ) (at : ℕ) (p : TextPlace) : Type 0 where
+  pub starts : at ≤ p .start
+  pub ordered : p .start ≤ p .end
+  pub inside : p .end ≤ p .next
+  pub after : at < p .next
+  pub within : p .next ≤ length reply
+  pub reads : textLines (drop at reply) ≡ stepText reply (some p) ∷ textLines (drop (p .next) reply)
 
 -- what a step says of the lines that are left
-abbrev pub Found : List ℕ → ℕ → Option (List ℕ) → Type 0
+abbrev pub Found : List ℕ → ℕ → Option TextPlace → Type 0
 Found reply at none = textLines (drop at reply) ≡ []
-Found reply at (some p) = LineHere reply at (getD p 0 0) (getD p 1 0) (getD p 2 0)
+Found reply at (some p) = LineHere reply at p
 
 -- what is found past a line that goes is found before it
-found-past : (reply : List ℕ) (at next : ℕ) → at < next → textLines (drop at reply) ≡ textLines (drop next reply) → (o : Option (List ℕ)) → Found reply next o → Found reply at o
+found-past : (reply : List ℕ) (at next : ℕ) → at < next → textLines (drop at reply) ≡ textLines (drop next reply) → (o : Option TextPlace) → Found reply next o → Found reply at o
 found-past reply at next h e none f = e ∙ f
 found-past reply at next h e (some p) f = record {
   starts = omega (arith, f .starts);
@@ -78,23 +78,24 @@ pub line-found : (reply : List ℕ) (at : ℕ) → Found reply at (lineFrom repl
 line-found reply at = found (length reply - at) reply at (omega arith)
 
 -- an answer with a line: its bounds, and the line with those that are left
-pub step-line : (reply : List ℕ) (at : ℕ) {r : LineStep} {start end next : ℕ} → lineStep r ≡ lineFrom reply at → r ≡ step.Line start end next → LineHere reply at start end next
+pub step-line : (reply : List ℕ) (at : ℕ) {r : TextStep} {start end next : ℕ} → textStep r ≡ lineFrom reply at → r ≡ step.Text start end next →
+    LineHere reply at (record { start = start; end = end; next = next })
 step-line reply at {r} {start} {end} {next} q e =
-    let p : lineFrom reply at ≡ some (start ∷ end ∷ next ∷ []) = sym q ∙ ap lineStep e in
+    let p : lineFrom reply at ≡ some (record { start = start; end = end; next = next }) = sym q ∙ ap textStep e in
     rw p at (line-found reply at)
 
 -- an answer with none: no line is left
-pub step-end : (reply : List ℕ) (at : ℕ) {r : LineStep} → lineStep r ≡ lineFrom reply at → r ≡ step.End → textLines (drop at reply) ≡ []
+pub step-end : (reply : List ℕ) (at : ℕ) {r : TextStep} → textStep r ≡ lineFrom reply at → r ≡ step.End → textLines (drop at reply) ≡ []
 step-end reply at {r} q e =
-    let p : lineFrom reply at ≡ none = sym q ∙ ap lineStep e in
+    let p : lineFrom reply at ≡ none = sym q ∙ ap textStep e in
     rw p at (line-found reply at)
 
 -- ---- the same of the lines decoded
 
-pub reply-line : (framing : Bool) (reply : List ℕ) (at start end next : ℕ) → LineHere reply at start end next →
-    replyLines framing (drop at reply) ≡ textLine framing (take (end - start) (drop start reply)) ∷ replyLines framing (drop next reply)
+pub reply-line : (framing : Bool) (reply : List ℕ) (at : ℕ) (p : TextPlace) → LineHere reply at p →
+    replyLines framing (drop at reply) ≡ textLine framing (stepText reply (some p)) ∷ replyLines framing (drop (p .next) reply)
 unfolding replyLines
-reply-line framing reply at start end next h = ap (map (textLine framing)) (h .reads)
+reply-line framing reply at p h = ap (map (textLine framing)) (h .reads)
 
 pub reply-end : (framing : Bool) (reply : List ℕ) (at : ℕ) → textLines (drop at reply) ≡ [] → replyLines framing (drop at reply) ≡ []
 unfolding replyLines

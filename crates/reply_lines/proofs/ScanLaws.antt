@@ -1,15 +1,15 @@
 -- Laws of the scans over a line: one for each way through the loop that goes over it.
-use mathlib.Core.Path.{_≡_, refl, sym, ap, _∙_}
+use mathlib.Core.Path.{_≡_, sym, ap, _∙_}
 use mathlib.Core.Bool.{true, false, not}
-use mathlib.Core.List.{List, [], _∷_, _++_}
+use mathlib.Core.List.{List, [], _∷_, _++_, reverse, reverse-append, reverse-cons, reverse-reverse}
 use Prim.Native.Nat.{ℕ, suc, _+_, _-_, _≤_, _<_}
 use native.Mathlib.Numerals.{add-one}
 use native.Mathlib.Omega.{arith}
 use lib.ListN.{length, take, drop, getD, length-drop, drop-of-length-le}
 use lib.Seq.{drop-cons, take-suc, take-all}
-use borrow.Author.Tests.{eq-eqb, ne-eqb}
+use borrow.Author.Tests.{eq-eqb, ne-eqb, lt-ltb}
 use Rattle.wire.specs.Text.{has, isSpace}
-use Rattle.reply_lines.specs.Lines.{trimStart, before, trimEnd, stays, unspaced}
+use Rattle.reply_lines.specs.Lines.{trimStart, trimEnd, stays, unspaced}
 use Rattle.reply_lines.specs.Steps.{toCR, CharAt}
 
 -- a part to the end of a slice
@@ -19,12 +19,10 @@ part-all s i = take-all (length s - i) (drop i s) (omega (arith, length-drop i s
 -- ---- a trimmed line
 
 pub stays-none : (s : List ℕ) → length s ≡ 0 → stays s ≡ false
-stays-none [] h = refl
-stays-none (c ∷ s) h = absurd (omega arith)
+stays-none s h = rw h
 
 pub stays-some : (s : List ℕ) → (length s ≡ 0 → ⊥) → stays s ≡ not (has 62 s)
-stays-some [] h = absurd (h refl)
-stays-some (c ∷ s) h = refl
+stays-some s h = rw (lt-ltb 0 (length s) (omega arith))
 
 -- ---- from position i on
 
@@ -70,16 +68,12 @@ char-none s at r p h = sym (p .reads) ∙ unspaced-end s r h
 -- ---- down from position e
 
 space-last : (s : List ℕ) (c : ℕ) → isSpace c ≡ true → trimEnd (s ++ (c ∷ [])) ≡ trimEnd s
-space-last [] c e = rw e
-space-last (d ∷ s) c e = ap (before d) (space-last s c e)
+space-last s c e = ap (λ (t : List ℕ). reverse (trimStart t)) (reverse-append s (c ∷ [])) ∙ rw e
 
 char-last : (s : List ℕ) (c : ℕ) → isSpace c ≡ false → trimEnd (s ++ (c ∷ [])) ≡ s ++ (c ∷ [])
-char-last [] c e = rw e
-char-last (d ∷ s) c e = ap (before d) (char-last s c e) ∙ some s
-  where
-    some : (s : List ℕ) → before d (s ++ (c ∷ [])) ≡ d ∷ (s ++ (c ∷ []))
-    some [] = refl
-    some (x ∷ s) = refl
+char-last s c e =
+    ap (λ (t : List ℕ). reverse (trimStart t)) (reverse-append s (c ∷ []))
+    ∙ rw e (reverse-cons c (reverse s) ∙ ap (λ (t : List ℕ). t ++ (c ∷ [])) (reverse-reverse s))
 
 module _ (s : List ℕ) (e : ℕ) (some : 0 < e) (h : e ≤ length s) where
   last-of : take e s ≡ take (e - 1) s ++ (getD s (e - 1) 0 ∷ [])

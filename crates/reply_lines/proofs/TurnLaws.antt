@@ -1,18 +1,18 @@
 -- The line at a position: what the lines of a reply and the next line that stays are, by what stands there.
 use mathlib.Core.Path.{_≡_, refl, sym, ap, _∙_}
 use mathlib.Core.Bool.{true, false, cond}
-use mathlib.Core.List.{List, [], _∷_}
+use mathlib.Core.List.{List, [], _∷_, _++_, reverse, reverse-append, reverse-reverse}
 use mathlib.Core.Option.{none, some}
 use Prim.Native.Nat.{ℕ, zero, suc, _+_, _-_, _≤_, _<_, min}
 use native.Mathlib.Omega.{arith}
 use lib.Dec.{eqb, ltb}
-use lib.ListN.{length, take, drop, length-take, length-drop, drop-of-length-le}
-use lib.Seq.{take-all, take-nil, take-take, drop-drop}
+use lib.ListN.{length, take, drop, length-take, length-drop, drop-of-length-le, take-append-drop}
+use lib.Seq.{take-all, take-nil, take-take, drop-drop, take-append-seam}
 use borrow.Author.Tests.{ltb-true, ltb-false}
 use Rattle.wire.specs.Text.{isSpace}
 use Rattle.wire.proofs.Cases.{by-test}
-use Rattle.reply_lines.specs.Lines.{splitCR, trimStart, trimEnd, before, trimmed, stays, textLines}
-use Rattle.reply_lines.specs.Answers.{past, textStart, lineFrom}
+use Rattle.reply_lines.specs.Lines.{splitCR, trimStart, trimEnd, trimmed, stays, textLines}
+use Rattle.reply_lines.specs.Reader.{lineFrom}
 use Rattle.reply_lines.specs.Steps.{toCR}
 
 -- ---- the first line and the others
@@ -38,13 +38,6 @@ split-last (c ∷ s) h =
     (λ e. let k : suc (length s) ≤ 0 = rw e at h in absurd (omega arith))
     (λ e. let k : suc (length s) ≤ suc (toCR s) = rw e at h in simp (e, split-last s (omega arith)))
 
--- there is always a line
-past-more : (at : ℕ) (l s : List ℕ) → past at l (splitCR s) ≡ at + length l + 1
-past-more at l s =
-    by-test (ltb (toCR s) (length s))
-    (λ e. rw (split-more s (ltb-true (toCR s) (length s) e)))
-    (λ e. rw (split-last s (ltb-false (toCR s) (length s) e)))
-
 -- ---- a trimmed line is a part of the line
 
 drop-take : (k n : ℕ) (s : List ℕ) → drop k (take n s) ≡ take (n - k) (drop k s)
@@ -67,15 +60,25 @@ start-part (c ∷ s) =
     (λ e. let n : suc (length s) - suc (length s) ≡ 0 = omega arith in rw e (rw n))
 
 end-part : (s : List ℕ) → trimEnd s ≡ take (length (trimEnd s)) s
-end-part [] = refl
-end-part (c ∷ s) = front (trimEnd s) (end-part s)
-  where
-    front : (t : List ℕ) → t ≡ take (length t) s → before c t ≡ take (length (before c t)) (c ∷ s)
-    front [] q = by-test (isSpace c) (λ e. rw e) (λ e. rw e)
-    front (d ∷ t) q = ap (λ (l : List ℕ). c ∷ l) q
+end-part s =
+    let t = reverse s in
+    let k = length t - length (trimStart t) in
+    let whole : s ≡ trimEnd s ++ reverse (take k t) =
+    sym (reverse-reverse s)
+    ∙ ap reverse (sym (take-append-drop k t))
+    ∙ reverse-append (take k t) (drop k t)
+    ∙ ap (λ (l : List ℕ). reverse l ++ reverse (take k t)) (sym (start-part t)) in
+    sym (take-append-seam (trimEnd s) (reverse (take k t))) ∙ ap (take (length (trimEnd s))) (sym whole)
 
 trimmed-short : (s : List ℕ) → length (trimmed s) ≤ length (trimStart s)
 trimmed-short s = omega (arith, ap length (end-part (trimStart s)), length-take (length (trimmed s)) (trimStart s))
+
+pub trimmed-fits : (s : List ℕ) → length (trimmed s) ≤ length s
+trimmed-fits s = omega (arith, trimmed-short s, start-short s)
+
+-- where a line's text starts
+abbrev textStart : ℕ → List ℕ → ℕ
+textStart at l = at + (length l - length (trimStart l))
 
 -- a part of a reply, as a slice is
 abbrev pub part : List ℕ → ℕ → ℕ → List ℕ
@@ -135,19 +138,14 @@ module _ (reply : List ℕ) (at cr : ℕ) (h : at < length reply) (hc : cr ≡ a
     -- the next line that stays
     from-turn : lineFrom reply at ≡
         cond (stays (trimmed (part reply at cr)))
-        (some (textStart at (part reply at cr) ∷ (textStart at (part reply at cr) + length (trimmed (part reply at cr))) ∷ next ∷ []))
+        (some (record { start = textStart at (part reply at cr); end = textStart at (part reply at cr) + length (trimmed (part reply at cr)); next = next }))
         (lineFrom reply next)
     unfolding lineFrom
     from-turn =
+        let m : min (at + length (part reply at cr) + 1) (length reply) ≡ next = omega (arith, line-length, hn, hc) in
         by-test (ltb cr (length reply))
-        (λ e.
-        let k = ltb-true cr (length reply) e in
-        let m : past at (part reply at cr) (splitCR (drop next reply)) ≡ next = past-more at (part reply at cr) (drop next reply) ∙ omega (arith, line-length, hn, hc) in
-        simp (split-here k, m))
-        (λ e.
-        let k = ltb-false cr (length reply) e in
-        let m : at + length (part reply at cr) ≡ next = omega (arith, line-length, hn, hc, cr-inside) in
-        simp (split-end k, rest-end k, m))
+        (λ e. simp (split-here (ltb-true cr (length reply) e), m))
+        (λ e. let k = ltb-false cr (length reply) e in simp (split-end k, rest-end k, m))
 
     -- the same by what the trims hand back
     module _ (text : List ℕ) (ht : text ≡ trimStart (part reply at cr)) (t : List ℕ) (he : t ≡ trimEnd text) where
@@ -169,7 +167,7 @@ module _ (reply : List ℕ) (at cr : ℕ) (h : at < length reply) (hc : cr ≡ a
       pub text-skip : stays t ≡ false → textLines (drop at reply) ≡ textLines (drop next reply)
       text-skip e = text-turn ∙ rw (← is-trimmed, e)
 
-      pub from-line : stays t ≡ true → lineFrom reply at ≡ some ((cr - length text) ∷ (cr - length text + length t) ∷ next ∷ [])
+      pub from-line : stays t ≡ true → lineFrom reply at ≡ some (record { start = cr - length text; end = cr - length text + length t; next = next })
       from-line e = from-turn ∙ rw (← is-trimmed, e, text-start)
 
       pub from-skip : stays t ≡ false → lineFrom reply at ≡ lineFrom reply next

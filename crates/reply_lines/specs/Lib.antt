@@ -1,4 +1,4 @@
 pub mod Lines
+pub mod Reader
 pub mod Decode
-pub mod Answers
 pub mod Steps

@@ -1,10 +1,11 @@
 -- Document 01, client_session.rs: "Lines are split at CR and trimmed of 09 to 0D and 20; empty ones and those holding `>` go; only 20 is removed inside."
 -- "00 is an ordinary character."
-use mathlib.Core.Bool.{Bool, false, cond, not}
-use mathlib.Core.List.{List, [], _∷_}
+use mathlib.Core.Bool.{Bool, cond, not, _&&_}
+use mathlib.Core.List.{List, [], _∷_, map, reverse}
 use Prim.Native.Nat.{ℕ}
-use lib.Dec.{eqb}
-use Rattle.wire.specs.Text.{has, isSpace}
+use lib.Dec.{eqb, ltb}
+use lib.ListN.{length}
+use Rattle.wire.specs.Text.{has, isSpace, passing}
 
 -- a character before the first line
 abbrev pub onto : ℕ → List (List ℕ) → List (List ℕ)
@@ -20,32 +21,20 @@ abbrev pub trimStart : List ℕ → List ℕ
 trimStart [] = []
 trimStart (c ∷ s) = cond (isSpace c) (trimStart s) (c ∷ s)
 
--- a character before a line that is trimmed at its end
-abbrev pub before : ℕ → List ℕ → List ℕ
-before c [] = cond (isSpace c) [] (c ∷ [])
-before c (d ∷ s) = c ∷ d ∷ s
-
 abbrev pub trimEnd : List ℕ → List ℕ
-trimEnd [] = []
-trimEnd (c ∷ s) = before c (trimEnd s)
+trimEnd s = reverse (trimStart (reverse s))
 
 abbrev pub trimmed : List ℕ → List ℕ
 trimmed s = trimEnd (trimStart s)
 
--- a line that stays: not empty, and without a prompt
+-- a trimmed line that stays: not empty, and without a prompt
 abbrev pub stays : List ℕ → Bool
-stays [] = false
-stays (c ∷ s) = not (has 62 (c ∷ s))
-
-abbrev pub staying : List (List ℕ) → List (List ℕ)
-staying [] = []
-staying (l ∷ ls) = cond (stays (trimmed l)) (trimmed l ∷ staying ls) (staying ls)
+stays s = ltb 0 (length s) && not (has 62 s)
 
 -- the lines of a reply, as text
 unfoldable pub textLines : List ℕ → List (List ℕ)
-textLines reply = staying (splitCR reply)
+textLines reply = passing stays (map trimmed (splitCR reply))
 
--- without its spaces
+-- a line's characters, spaces removed
 abbrev pub unspaced : List ℕ → List ℕ
-unspaced [] = []
-unspaced (c ∷ s) = cond (eqb c 32) (unspaced s) (c ∷ unspaced s)
+unspaced s = passing (λ c. not (eqb c 32)) s

@@ -1,21 +1,21 @@
 // The lines of a reply (parse_lines and decode_hex of the Rust's client_session.rs).
-use hex::HexByte;
-use hex::HexId;
+use hex::HexNumber;
 ghost use mathlib.Core.Path.{_≡_};
 ghost use mathlib.Core.List.{[], _∷_};
-ghost use Prim.Native.Nat.{suc, _+_, _≤_, min};
-ghost use lib.ListN.{length, drop};
+ghost use mathlib.Core.Option.{Option·getD};
+ghost use Prim.Native.Nat.{suc, _+_, _-_, _≤_, min};
+ghost use lib.ListN.{length, take, drop, getD};
 ghost use Rattle.wire.specs.Put.{Put};
 ghost use Rattle.hex.specs.Read.{hexNumber, kept, pairBytes};
-ghost use Rattle.reply_lines.specs.Lines.{trimStart, trimEnd, stays, unspaced};
-ghost use Rattle.reply_lines.specs.Decode.{orZero, textLine};
-ghost use Rattle.reply_lines.specs.Answers.{lineStep, lineFrom, DecodedAs};
+ghost use Rattle.reply_lines.specs.Lines.{trimStart, trimEnd, stays, textLines, unspaced};
+ghost use Rattle.reply_lines.specs.Decode.{textLine, DecodedAs};
+ghost use Rattle.reply_lines.specs.Reader.{textStep, lineFrom, pastStep, stepText};
 ghost use Rattle.reply_lines.specs.Steps.{toCR, CharAt, HeadOf};
 
 // The next line of a reply that counts.
-pub enum LineStep {
+pub enum TextStep {
     // Its text is reply[start..end]; the next line is looked for from next on.
-    Line {
+    Text {
         start: usize,
         end: usize,
         next: usize,
@@ -96,8 +96,8 @@ fn stays(text: &[u8]) -> bool
 }
 
 // The next line that stays, from position at on.
-pub fn next_line(reply: &[u8], at: usize) -> LineStep
-    ensures { λ r. ⌜ lineStep r ≡ lineFrom (now (reply .entry)) at ⌝ }
+pub fn next_line(reply: &[u8], at: usize) -> TextStep
+    ensures { λ r. ⌜ textStep r ≡ lineFrom (now (reply .entry)) at ⌝ }
 {
     let mut at = at;
     while at < reply.len() {
@@ -107,7 +107,7 @@ pub fn next_line(reply: &[u8], at: usize) -> LineStep
         let start = cr - text.len();
         let trimmed = trim_end(text);
         if stays(trimmed) {
-            return LineStep::Line {
+            return TextStep::Text {
                 start,
                 end: start + trimmed.len(),
                 next,
@@ -115,7 +115,96 @@ pub fn next_line(reply: &[u8], at: usize) -> LineStep
         }
         at = next;
     }
-    LineStep::End
+    TextStep::End
+}
+
+// A reader that walks the lines of one lent reply. The work is done on a slice and a number; the functions over LineReader take it apart and are thin.
+pub struct LineReader<'a> {
+    pub reply: &'a [u8],
+    // The next line is looked for from here on.
+    pub at: usize,
+}
+
+// Where a reader goes on after a step: past its line, or where it stands when no line is left.
+fn past_step(at: usize, step: TextStep) -> usize
+    ensures { λ r. ⌜ r ≡ pastStep at (textStep step) ⌝ }
+{
+    match step {
+        TextStep::Text {
+            start: _,
+            end: _,
+            next,
+        } => next,
+        TextStep::End => at,
+    }
+}
+
+// The part of a reply from start to end, as far as the reply reaches.
+fn part<'a>(reply: &'a [u8], start: usize, end: usize) -> &'a [u8]
+    ensures { λ r. ⌜ now r ≡ take (end - start) (drop start (now (reply .entry))) ⌝ }
+{
+    if reply.len() <= start {
+        return &reply[..0];
+    }
+    if end <= start {
+        return &reply[..0];
+    }
+    if reply.len() <= end {
+        return &reply[start..];
+    }
+    &reply[start..end]
+}
+
+// The text of a step over a reply.
+fn step_text<'a>(reply: &'a [u8], step: TextStep) -> &'a [u8]
+    ensures { λ r. ⌜ now r ≡ stepText (now (reply .entry)) (textStep step) ⌝ }
+{
+    match step {
+        TextStep::Text {
+            start,
+            end,
+            next: _,
+        } => part(reply, start, end),
+        TextStep::End => &reply[..0],
+    }
+}
+
+impl<'a> LineReader<'a> {
+    // At the start of a reply.
+    pub fn new(reply: &'a [u8]) -> LineReader<'a>
+        ensures { λ r. ⌜ (r .reply ≡ reply .entry) × (r .at ≡ 0) ⌝ }
+    {
+        LineReader { reply, at: 0 }
+    }
+
+    // The next line, and the reader moves past it; End, and it stays, when no line is left.
+    pub fn next_line<'s>(&'s mut self) -> TextStep
+        ensures { λ r. ⌜ (textStep r ≡ lineFrom (now (now (self .entry) .reply)) (now (self .entry) .at))
+            × (now (self .exit) .reply ≡ now (self .entry) .reply)
+            × (now (self .exit) .at ≡ pastStep (now (self .entry) .at) (lineFrom (now (now (self .entry) .reply)) (now (self .entry) .at))) ⌝ }
+    {
+        let reply = self.reply;
+        let at = self.at;
+        let step = next_line(reply, at);
+        self.at = past_step(at, step);
+        step
+    }
+
+    // The text of a line that the reader gave: a part of the reply, not copied. Nothing for End.
+    pub fn text(self, step: TextStep) -> &'a [u8]
+        ensures { λ r. ⌜ now r ≡ stepText (now (self .entry .reply)) (textStep step) ⌝ }
+    {
+        step_text(self.reply, step)
+    }
+}
+
+// The text of a reply's first line, nothing where it has none.
+pub fn first_text<'a>(reply: &'a [u8]) -> &'a [u8]
+    ensures { λ r. ⌜ now r ≡ getD (textLines (now (reply .entry))) 0 [] ⌝ }
+{
+    let mut reader = LineReader::new(reply);
+    let step = reader.next_line();
+    reader.text(step)
 }
 
 // A line's first characters that are no spaces, at most five, and where the rest of it starts.
@@ -144,10 +233,10 @@ fn next_char(text: &[u8], at: usize) -> usize
 fn put_pair(out: &mut [u8], at: usize, a: u8, b: u8) -> usize
     ensures { λ r. ⌜ Put (now (out .entry)) at (kept (hexNumber (a ∷ b ∷ []))) r (now (out .exit)) ⌝ }
 {
-    let HexByte::Byte(byte) = hex::hex_pair(a, b) else {
+    let HexNumber::Number(byte) = hex::hex_pair(a, b) else {
         return at;
     };
-    wire::put_byte(out, at, byte)
+    wire::put_byte(out, at, byte as u8)
 }
 
 // The bytes of the pairs of a text from position at on, spaces skipped, stored at the front of out.
@@ -197,11 +286,11 @@ fn read_head(text: &[u8]) -> Head
 
 // ECU+1 of an id's characters: a bad id is 000.
 fn ecu_of(a: u8, b: u8, c: u8) -> u16
-    ensures { λ r. ⌜ r ≡ suc (orZero (hexNumber (a ∷ b ∷ c ∷ []))) ⌝ }
+    ensures { λ r. ⌜ r ≡ suc (Option·getD (hexNumber (a ∷ b ∷ c ∷ [])) 0) ⌝ }
 {
     match hex::hex_id(a, b, c) {
-        HexId::Id(id) => id + 1,
-        HexId::Bad => 1,
+        HexNumber::Number(id) => id + 1,
+        HexNumber::Bad => 1,
     }
 }
 

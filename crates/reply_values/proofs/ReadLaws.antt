@@ -2,15 +2,13 @@
 use mathlib.Core.Path.{_≡_, refl, sym, ap, subst, _∙_}
 use mathlib.Core.Bool.{Bool}
 use mathlib.Core.List.{List, [], _∷_, map}
-use Prim.Native.Nat.{ℕ, _+_, _*_, _≤_, _<_, min}
+use Prim.Native.Nat.{ℕ, _+_, _*_, _≤_, _<_}
 use native.Mathlib.Omega.{arith}
-use lib.Dec.{leb}
-use lib.ListN.{length, take, length-take}
-use lib.Seq.{take-all}
-use borrow.Author.Tests.{lt-ltb, le-ltb, leb-true, leb-false}
-use Rattle.wire.specs.Answer.{result, refused}
+use lib.ListN.{length, take}
+use lib.Seq.{sets, take-all}
+use borrow.Author.Tests.{lt-ltb, le-ltb}
+use Rattle.wire.specs.Answer.{result, refused, unless}
 use Rattle.wire.specs.Put.{Put}
-use Rattle.wire.proofs.Cases.{by-test}
 use Rattle.wire.proofs.PutLaws.{put-length, put-whole, put-front}
 use Rattle.value.specs.Values.{Value, valuesBytes}
 use Rattle.reply_lines.specs.Lines.{textLines}
@@ -18,7 +16,7 @@ use Rattle.reply_lines.specs.Decode.{textLine, replyLines}
 use Rattle.reply_lines.proofs.DecodeLaws.{line-ecu}
 use Rattle.reply_values.specs.Values.{valuesOf, answerOrder}
 use Rattle.reply_values.specs.Learn.{lengthsAfter, learnCounts, givenPids}
-use Rattle.reply_values.specs.Read.{Asked, Reading, reading, readInto, readReply}
+use Rattle.reply_values.specs.Read.{Asked, Reading, reading, ReadServed, readReply}
 use Rattle.reply_values.specs.Steps.{valuesIn}
 use Rattle.reply_values.proofs.InLaws.{values-in}
 use Rattle.reply_values.proofs.SizeLaws.{reply-size}
@@ -42,16 +40,6 @@ unfolding answerOrder
 order-copy {out} {values} {left} {r} h p = subst (λ t. Put out 0 t r left) h p
 
 -- The whole
-
--- the first 4,096 bytes
-cut-same : (reply : List ℕ) {end : ℕ} → end ≡ min (length reply) 4096 → take end reply ≡ take 4096 reply
-cut-same reply {end} h =
-    by-test (leb (length reply) 4096)
-    (λ t. let k = leb-true (length reply) 4096 t in take-all end reply (omega arith) ∙ sym (take-all 4096 reply k))
-    (λ t. let k = leb-false (length reply) 4096 t in let e : end ≡ 4096 = omega arith in ap (λ n. take n reply) e)
-
-pub cut-short : (reply : List ℕ) {end : ℕ} → end ≡ min (length reply) 4096 → length (take end reply) ≤ 4096
-cut-short reply {end} h = omega (arith, length-take end reply)
 
 -- every ECU+1 of a reply is at most 4,096
 pub reply-known : (framing : Bool) (reply : List ℕ) → KnownEcus (replyLines framing reply)
@@ -82,10 +70,34 @@ module _ (framing : Bool) (text lengths : List ℕ) (short : length text ≤ 409
   pub stored-back : take size left ≡ valuesBytes (valuesIn (take size left))
   stored-back = stored-front ∙ ap valuesBytes (sym stored-values)
 
--- a reply is read as its first 4,096 bytes are
-pub read-cut : (q : Asked) (reply out : List ℕ) {end : ℕ} → end ≡ min (length reply) 4096 → readReply q (take end reply) out ≡ readReply q reply out
-unfolding readReply
-read-cut q reply out {end} h = ap (λ t. readInto q (reading q t) out) (take-all 4096 (take end reply) (cut-short reply h) ∙ cut-same reply h)
+-- what a number comes to, and what is read where none applies
+abbrev unreadFor : Asked → ℕ → List ℕ → ReadServed
+unreadFor q n out = record { answer = refused n; lengths = q .lengths; counts = q .counts; out = out }
+
+abbrev wholeOf : Reading → List ℕ → ReadServed
+wholeOf r out =
+    let text = valuesBytes (r .values) in
+    record {
+      answer = result (record { count = length (r .values); written = length text; given = r .given });
+      lengths = r .lengths;
+      counts = r .counts;
+      out = sets out 0 text;
+    }
+
+-- a reply that is too long
+pub read-long : (q : Asked) (reply out : List ℕ) → 4096 < length reply → readReply q reply out ≡ unreadFor q 8 out
+unfolding readReply unless
+read-long q reply out h = rw (lt-ltb 4096 (length reply) h)
+
+-- any other: its values are longer than the buffer, or they fit
+module _ (q : Asked) (reply out : List ℕ) (short : length reply ≤ 4096) where
+  pub read-full : length out < length (valuesBytes (reading q reply .values)) → readReply q reply out ≡ unreadFor q 6 out
+  unfolding readReply unless
+  read-full h = rw (le-ltb 4096 (length reply) short, lt-ltb (length out) (length (valuesBytes (reading q reply .values))) h)
+
+  pub read-fits : length (valuesBytes (reading q reply .values)) ≤ length out → readReply q reply out ≡ wholeOf (reading q reply) out
+  unfolding readReply unless
+  read-fits h = rw (le-ltb 4096 (length reply) short, le-ltb (length out) (length (valuesBytes (reading q reply .values))) h)
 
 -- what values teach, with the lengths that they were found by
 abbrev readingOf : Asked → List ℕ → List Value → Reading
@@ -104,23 +116,20 @@ module _ (q : Asked) (text : List ℕ) (short : length text ≤ 4096) {after : L
   found-size : size ≡ length (valuesBytes (answerOrder found))
   found-size = stored-size (q .framing) text after short room p ∙ ap (λ vs. length (valuesBytes vs)) (sym same) ∙ sym (order-size found)
 
-  read-found : (out : List ℕ) → readReply q text out ≡ readInto q (readingOf q after found) out
-  unfolding readReply
-  read-found out =
-      ap (λ t. readInto q (reading q t) out) (take-all 4096 text short)
-      ∙ ap (λ ls. readInto q (readingOf q ls (valuesOf ls (replyLines (q .framing) text))) out) (sym learned)
-      ∙ ap (λ vs. readInto q (readingOf q after vs) out) (sym same)
+  read-found : reading q text ≡ readingOf q after found
+  read-found = ap (λ ls. readingOf q ls (valuesOf ls (replyLines (q .framing) text))) (sym learned) ∙ ap (readingOf q after) (sym same)
 
-  pub read-small : {out : List ℕ} → length out < size → record { answer = refused 6; lengths = q .lengths; counts = q .counts; out = out } ≡ readReply q text out
-  read-small {out} h = sym (read-found out ∙ rw (lt-ltb (length out) (length (valuesBytes (answerOrder found))) (omega (arith, found-size))))
+  text-size : length (valuesBytes (reading q text .values)) ≡ size
+  text-size = ap (λ (r : Reading). length (valuesBytes (r .values))) read-found ∙ sym found-size
+
+  pub read-small : {out : List ℕ} → length out < size → unreadFor q 6 out ≡ readReply q text out
+  read-small {out} h = sym (read-full q text out short (omega (arith, text-size)))
 
   pub read-whole : {out o₁ counts : List ℕ} {count written given : ℕ} → size ≤ length out → count ≡ length found → given ≡ givenPids (q .pids) found →
       counts ≡ learnCounts (q .framing) 0 (q .counts) found → Put out 0 (valuesBytes (answerOrder found)) written o₁ →
-      record { answer = result (count ∷ written ∷ given ∷ []); lengths = after; counts = counts; out = o₁ } ≡ readReply q text out
+      record { answer = result (record { count = count; written = written; given = given }); lengths = after; counts = counts; out = o₁ } ≡ readReply q text out
   read-whole {out} {o₁} {counts} {count} {written} {given} h c g l w =
-      let text = valuesBytes (answerOrder found) in
-      let all : written ≡ length text = let e = put-whole w (omega (arith, found-size)) in omega arith in
-      let fits = le-ltb (length out) (length text) (omega (arith, found-size)) in
+      let all : written ≡ length (valuesBytes (answerOrder found)) = let e = put-whole w (omega (arith, found-size)) in omega arith in
       let many : count ≡ length (answerOrder found) = c ∙ sym (order-count found) in
-      (λ i. record { answer = result (many i ∷ all i ∷ g i ∷ []); lengths = after; counts = l i; out = w .bytes i })
-      ∙ sym (read-found out ∙ rw fits)
+      (λ i. record { answer = result (record { count = many i; written = all i; given = g i }); lengths = after; counts = l i; out = w .bytes i })
+      ∙ sym (read-fits q text out short (omega (arith, text-size)) ∙ ap (λ (r : Reading). wholeOf r out) read-found)

@@ -2,7 +2,7 @@
 use mathlib.Core.Path.{_≡_, refl}
 use mathlib.Core.Bool.{Bool, true, false}
 use mathlib.Core.List.{List, [], _∷_, map}
-use mathlib.Core.Option.{Option, none, some}
+use mathlib.Core.Option.{Option·getD}
 use Prim.Native.Nat.{ℕ, zero, suc, _+_, _-_, _*_, _≤_}
 use native.Mathlib.Nat.{mul-suc, mul-le-mul}
 use native.Mathlib.Omega.{arith}
@@ -10,17 +10,18 @@ use lib.Dec.{eqb, ltb}
 use lib.ListN.{length, take, drop, length-append, length-drop}
 use lib.Seq.{length-take-le}
 use borrow.Author.Tests.{ltb-true, ltb-false}
-use Rattle.wire.specs.Text.{isSpace}
+use Rattle.wire.specs.Text.{passing}
 use Rattle.wire.proofs.Cases.{by-test, from-no}
-use Rattle.hex.specs.Read.{hexNumber, kept, pairBytes}
+use Rattle.hex.specs.Read.{hexNumber, pairBytes}
 use Rattle.pid.specs.Lengths.{lengthIn}
 use Rattle.group.specs.Group.{groupBytes}
 use Rattle.group.proofs.GroupLaws.{groupBytes-small, groupBytes-two}
 use Rattle.value.specs.Values.{Value, value, valueFormat, valuesBytes}
 use Rattle.value.proofs.ValueLaws.{value-length}
-use Rattle.reply_lines.specs.Lines.{onto, splitCR, trimStart, before, trimEnd, trimmed, stays, staying, textLines, unspaced}
-use Rattle.reply_lines.specs.Decode.{orZero, textLine, replyLines}
-use Rattle.reply_lines.proofs.DecodeLaws.{line-ecu}
+use Rattle.reply_lines.specs.Lines.{onto, splitCR, trimmed, stays, textLines, unspaced}
+use Rattle.reply_lines.specs.Decode.{textLine, replyLines}
+use Rattle.reply_lines.proofs.DecodeLaws.{unspaced-length, pairs-half, line-ecu}
+use Rattle.reply_lines.proofs.TurnLaws.{trimmed-fits}
 use Rattle.reply_values.specs.Values.{spanOf, walk, walked, lineValues, valuesOf}
 use Rattle.reply_values.proofs.WalkLaws.{span-within, bytes-append}
 
@@ -69,38 +70,24 @@ line-size lengths e (m ∷ s) g h k =
     (λ t. rw t (omega (arith, walk-size (length s) lengths e s (omega arith), mul-le-mul k (walk-few (length s) lengths e s))))
     (λ t. rw t (omega arith)))
 
--- two characters give a byte at most
-kept-one : (o : Option ℕ) → length (kept o) ≤ 1
-kept-one none = omega arith
-kept-one (some n) = omega arith
-
-pairs-half : (s : List ℕ) → 2 * length (pairBytes s) ≤ length s
-pairs-half [] = omega arith
-pairs-half (a ∷ []) = omega arith
-pairs-half (a ∷ b ∷ s) = omega (arith, length-append (kept (hexNumber (a ∷ b ∷ []))) (pairBytes s), kept-one (hexNumber (a ∷ b ∷ [])), pairs-half s)
-
-unspaced-short : (s : List ℕ) → length (unspaced s) ≤ length s
-unspaced-short [] = omega arith
-unspaced-short (c ∷ s) = by-test (eqb c 32) (λ t. rw t (omega (arith, unspaced-short s))) (λ t. rw t (omega (arith, unspaced-short s)))
-
 -- a line gives three bytes for each of its characters, and three for its CR
 text-size : (lengths : List ℕ) (framing : Bool) (s : List ℕ) → length s ≤ 4096 →
     let l = textLine framing s in length (valuesBytes (lineValues lengths (l .ecu) (l .bytes))) ≤ 3 * suc (length s)
 unfolding textLine
 text-size lengths false s h =
     let chars = unspaced s in
-    let few = unspaced-short s in
+    let few = unspaced-length s in
     let half = pairs-half chars in
     omega (arith, line-size lengths 0 (pairBytes chars) 1 (omega arith) (rw (groupBytes-small 0 (omega arith)) (omega arith)))
 text-size lengths true s h =
     let chars = unspaced s in
-    let few = unspaced-short s in
+    let few = unspaced-length s in
     by-test (ltb (length chars) 5)
     (λ t.
     let short = ltb-true (length chars) 5 t in
     rw t (omega (arith, line-size lengths 0 chars 1 (omega arith) (rw (groupBytes-small 0 (omega arith)) (omega arith)))))
     (λ t.
-    let ecu = suc (orZero (hexNumber (take 3 chars))) in
+    let ecu = suc (Option·getD (hexNumber (take 3 chars)) 0) in
     let known : ecu ≤ 4096 = rw t at (line-ecu true s) in
     let half = pairs-half (drop 5 chars) in
     let left = length-drop 5 chars in
@@ -146,22 +133,11 @@ split-size (c ∷ s) =
     (λ t. rw t (omega (arith, split-size s)))
     (λ t. rw t (omega (arith, onto-size c (splitCR s) (split-some s), split-size s)))
 
-start-short : (s : List ℕ) → length (trimStart s) ≤ length s
-start-short [] = omega arith
-start-short (c ∷ s) = by-test (isSpace c) (λ t. rw t (omega (arith, start-short s))) (λ t. rw t (omega arith))
-
-end-short : (s : List ℕ) → length (trimEnd s) ≤ length s
-end-short [] = omega arith
-end-short (c ∷ s) = front (trimEnd s) (end-short s) where
-  front : (t : List ℕ) → length t ≤ length s → length (before c t) ≤ suc (length s)
-  front [] h = by-test (isSpace c) (λ t. rw t (omega arith)) (λ t. rw t (omega arith))
-  front (d ∷ t) h = omega arith
-
-staying-size : (ss : List (List ℕ)) → sizes (staying ss) ≤ sizes ss
+staying-size : (ss : List (List ℕ)) → sizes (passing stays (map trimmed ss)) ≤ sizes ss
 staying-size [] = omega arith
 staying-size (s ∷ ss) =
     by-test (stays (trimmed s))
-    (λ t. rw t (omega (arith, staying-size ss, start-short s, end-short (trimStart s))))
+    (λ t. rw t (omega (arith, staying-size ss, trimmed-fits s)))
     (λ t. rw t (omega (arith, staying-size ss)))
 
 -- the values of a reply
@@ -171,4 +147,4 @@ unfolding replyLines textLines
 reply-size lengths framing reply h =
     let few = staying-size (splitCR reply) in
     let all = split-size reply in
-    omega (arith, texts-size lengths framing (staying (splitCR reply)) (omega arith))
+    omega (arith, texts-size lengths framing (passing stays (map trimmed (splitCR reply))) (omega arith))

@@ -1,7 +1,7 @@
 -- Laws of the values of a line: the first and the others, without counting steps; and of the values of several lines.
 use mathlib.Core.Path.{_≡_, refl, sym, ap, _∙_}
 use mathlib.Core.List.{List, [], _∷_, _++_, append-assoc}
-use mathlib.Core.Option.{Option, none, some}
+use mathlib.Core.Option.{Option, some}
 use Prim.Native.Nat.{ℕ, zero, suc, _+_, _-_, _≤_, _<_}
 use native.Mathlib.Numerals.{add-one}
 use native.Mathlib.Omega.{arith}
@@ -46,8 +46,7 @@ walked-cons lengths e p s =
 
 -- a PID's data ends with its line
 pub span-within : (o : Option ℕ) (left : ℕ) → spanOf o left ≤ left
-span-within none left = omega arith
-span-within (some n) left = omega arith
+span-within o left = omega arith
 
 -- the values from position i on: one with n data bytes, and the end
 module _ (lengths : List ℕ) (e : ℕ) (s : List ℕ) (i : ℕ) where

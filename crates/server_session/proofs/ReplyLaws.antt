@@ -21,7 +21,8 @@ use Rattle.client_state.specs.Settings.{settings, withLast}
 use Rattle.client_state.specs.declared.ClientState.{ClientState}
 use Rattle.at_command.specs.Dialect.{atKind, kindSettings, kindLines}
 use Rattle.at_command.specs.declared.AtKind.{AtKind}
-use Rattle.at_command.specs.declared.AtKind.the-variants.{Reset, Echo, Linefeeds, Spaces, Headers, Voltage, Protocol, ProtocolNumber, Accepted, Ati, Device, Unknown}
+use Rattle.at_command.specs.declared.AtKind.the-variants.{Reset, Set, Accepted, Identity, Voltage, Protocol, ProtocolNumber, Unknown}
+use Rattle.at_command.specs.declared.IdentityText.the-variants.{Ati, Device}
 use Rattle.reply.specs.Shape.{chipReply}
 use Rattle.reply.specs.Reply.{replyText}
 use Rattle.reply.specs.Answers as R
@@ -63,16 +64,13 @@ reset-short false t = simp length-append (omega arith)
 pub at-short : (linefeeds : Bool) (ati device : List ℕ) (kind : AtKind) → length ati ≤ 32 → length device ≤ 32 →
     length (chipReply linefeeds (kindLines ati device kind)) ≤ 48
 at-short lf ati device Reset h i = omega (arith, reset-short lf ati)
-at-short lf ati device (Echo on) h i = omega (arith, one-line lf (ascii "OK"))
-at-short lf ati device (Linefeeds on) h i = omega (arith, one-line lf (ascii "OK"))
-at-short lf ati device (Spaces on) h i = omega (arith, one-line lf (ascii "OK"))
-at-short lf ati device (Headers on) h i = omega (arith, one-line lf (ascii "OK"))
+at-short lf ati device (Set setting on) h i = omega (arith, one-line lf (ascii "OK"))
 at-short lf ati device Voltage h i = omega (arith, one-line lf (ascii "12.6V"))
 at-short lf ati device Protocol h i = omega (arith, one-line lf (ascii "AUTO, ISO 15765-4 (CAN 11/500)"))
 at-short lf ati device ProtocolNumber h i = omega (arith, one-line lf (ascii "A6"))
 at-short lf ati device Accepted h i = omega (arith, one-line lf (ascii "OK"))
-at-short lf ati device Ati h i = omega (arith, one-line lf ati)
-at-short lf ati device Device h i = omega (arith, one-line lf device)
+at-short lf ati device (Identity Ati) h i = omega (arith, one-line lf ati)
+at-short lf ati device (Identity Device) h i = omega (arith, one-line lf device)
 at-short lf ati device Unknown h i = omega (arith, one-line lf (ascii "?"))
 
 -- an AT command is handled and its answer, which fits, written

@@ -130,8 +130,10 @@ fn put_at_answer<'a>(
             let at = client_state::put_line_ending(out, at, linefeeds);
             reply::put_text_reply(out, at, ati, linefeeds)
         }
-        AtKind::Ati | AtKind::Device => {
-            let text = at_command::identity_text(ati, device, kind);
+        AtKind::Set(_, _) => reply::put_text_reply(out, 0, b"OK", linefeeds),
+        AtKind::Accepted => reply::put_text_reply(out, 0, b"OK", linefeeds),
+        AtKind::Identity(which) => {
+            let text = at_command::identity_text(ati, device, which);
             reply::put_text_reply(out, 0, text, linefeeds)
         }
         AtKind::Voltage => reply::put_text_reply(out, 0, b"12.6V", linefeeds),
@@ -143,8 +145,6 @@ fn put_at_answer<'a>(
         ),
         AtKind::ProtocolNumber => reply::put_text_reply(out, 0, b"A6", linefeeds),
         AtKind::Unknown => reply::put_text_reply(out, 0, b"?", linefeeds),
-        // The switches, and those taken with no effect.
-        _ => reply::put_text_reply(out, 0, b"OK", linefeeds),
     }
 }
 

@@ -13,7 +13,9 @@ with-kind-requires : tie.Need-with-kind-requires
 with-kind-requires c κs = search needs
 
 returns : tie.Need-returns
-returns c = (c .with-kind .ensures ∙ ap (λ k. kindSettings k (settings (c .before .before .before .args .state))) (c .before .at-kind .ensures), c .before .at-kind .ensures)
+returns c =
+    let start = c .before .before .before in
+    (c .with-kind .ensures ∙ ap (λ k. kindSettings k (settings (start .args .state))) (c .before .at-kind .ensures), c .before .at-kind .ensures)
 
 pub at-handled-spec : {M : Type 1} → statement M
 at-handled-spec = tie.close (tie.spec at-kind-requires with-kind-requires returns)

@@ -19,7 +19,20 @@ use Rattle.wire.proofs.begins.Reads as begins-reads
 use Rattle.at_command.proofs.at_kind.Statement.{statement}
 use Rattle.at_command.proofs.at_kind.Tie as tie
 
-module _ (s : lts.After-shared-slice-known2 (begins-reads.Asked, begins-reads.Learnt, one-text-reads.Asked, one-text-reads.Learnt, switched-reads.Asked, switched-reads.Learnt, ats-kind-reads.Asked, ats-kind-reads.Learnt, atd-kind-reads.Asked, atd-kind-reads.Learnt, accepted-reads.Asked, accepted-reads.Learnt) reads.Pre reads.Post) where
+module _ (s : lts.After-shared-slice-known2 (
+  begins-reads.Asked,
+  begins-reads.Learnt,
+  one-text-reads.Asked,
+  one-text-reads.Learnt,
+  switched-reads.Asked,
+  switched-reads.Learnt,
+  ats-kind-reads.Asked,
+  ats-kind-reads.Learnt,
+  atd-kind-reads.Asked,
+  atd-kind-reads.Learnt,
+  accepted-reads.Asked,
+  accepted-reads.Learnt,
+) reads.Pre reads.Post) where
   abbrev text : List ℕ
   text = s .before .before .before .before .before .before .args .command .now
 
@@ -33,10 +46,15 @@ begins-requires : tie.Need-begins-requires
 begins-requires c κs = search needs
 
 returns : tie.Need-returns
-returns c = sym (kind-other (c .before .before .before .before .args .command .now) (sym (c .before .begins .ensures) ∙ not-true _ (c .if1 .taken)))
+returns c =
+    let start = c .before .before .before .before in
+    sym (kind-other (start .args .command .now) (sym (c .before .begins .ensures) ∙ not-true _ (c .if1 .taken)))
 
 returns-2 : tie.Need-returns-2
-returns-2 c = sym (kind-bare (c .before .before .before .before .before .args .command .now) (sym (c .before .before .begins .ensures) ∙ not-false _ (c .before .if1 .left)) (c .if2 .taken))
+returns-2 c =
+    let at-begins = c .before .before in
+    let start = at-begins .before .before .before in
+    sym (kind-bare (start .args .command .now) (sym (at-begins .begins .ensures) ∙ not-false _ (c .before .if1 .left)) (c .if2 .taken))
 
 shared-slice-read-letter : tie.Need-shared-slice-read-letter
 shared-slice-read-letter c = search needs
@@ -88,7 +106,9 @@ one-text-requires-4 c κs = search needs
 
 returns-3 : tie.Need-returns-3
 unfolding atKind
-returns-3 c = c .one-text .ensures ∙ rw (letter (c .before .before .before) 90 (c .before .before .match .keys1))
+returns-3 c =
+    let at-before = c .before .before in
+    c .one-text .ensures ∙ rw (letter (at-before .before) 90 (at-before .match .keys1))
 
 returns-4 : tie.Need-returns-4
 unfolding atKind
@@ -108,7 +128,9 @@ returns-7 c = c .switched3 .ensures ∙ rw (letter (c .before .before) 72 (c .be
 
 returns-8 : tie.Need-returns-8
 unfolding atKind
-returns-8 c = c .one-text2 .ensures ∙ rw (letter (c .before .before .before) 82 (c .before .before .match .keys6))
+returns-8 c =
+    let at-before = c .before .before in
+    c .one-text2 .ensures ∙ rw (letter (at-before .before) 82 (at-before .match .keys6))
 
 returns-9 : tie.Need-returns-9
 unfolding atKind
@@ -116,15 +138,21 @@ returns-9 c = c .atd-kind .ensures ∙ rw (letter (c .before .before) 68 (c .bef
 
 returns-10 : tie.Need-returns-10
 unfolding atKind
-returns-10 c = c .accepted .ensures ∙ rw (letter (c .before .before .before) 65 (c .before .before .match .keys8))
+returns-10 c =
+    let at-before = c .before .before in
+    c .accepted .ensures ∙ rw (letter (at-before .before) 65 (at-before .match .keys8))
 
 returns-11 : tie.Need-returns-11
 unfolding atKind
-returns-11 c = c .one-text3 .ensures ∙ rw (letter (c .before .before .before) 73 (c .before .before .match .keys9))
+returns-11 c =
+    let at-before = c .before .before in
+    c .one-text3 .ensures ∙ rw (letter (at-before .before) 73 (at-before .match .keys9))
 
 returns-12 : tie.Need-returns-12
 unfolding atKind
-returns-12 c = c .one-text4 .ensures ∙ rw (letter (c .before .before .before) 64 (c .before .before .match .keys10))
+returns-12 c =
+    let at-before = c .before .before in
+    c .one-text4 .ensures ∙ rw (letter (at-before .before) 64 (at-before .match .keys10))
 
 returns-13 : tie.Need-returns-13
 returns-13 c = sym (rw (letter (c .before) _ refl) (no-letter _ _ (c .match .rest)))

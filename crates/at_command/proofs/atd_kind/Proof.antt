@@ -21,7 +21,10 @@ one-text-requires : tie.Need-one-text-requires
 one-text-requires c κs = search needs
 
 returns-2 : tie.Need-returns-2
-returns-2 c = next _ _ _ (sym (c .before .before .before .same .ensures) ∙ c .before .before .if1 .left) (c .one-text .ensures)
+returns-2 c =
+    let at-if1 = c .before .before in
+    let at-same = at-if1 .before in
+    next _ _ _ (sym (at-same .same .ensures) ∙ at-if1 .if1 .left) (c .one-text .ensures)
 
 pub atd-kind-spec : {M : Type 1} → statement M
 atd-kind-spec =

@@ -21,7 +21,10 @@ same-requires-2 : tie.Need-same-requires-2
 same-requires-2 c κs = search needs
 
 returns-2 : tie.Need-returns-2
-returns-2 c = next _ _ _ (sym (c .before .before .before .before .same .ensures) ∙ c .before .before .before .if1 .left) (first _ _ _ (sym (c .before .same2 .ensures) ∙ c .if2 .taken))
+returns-2 c =
+    let at-if1 = c .before .before .before in
+    let at-same = at-if1 .before in
+    next _ _ _ (sym (at-same .same .ensures) ∙ at-if1 .if1 .left) (first _ _ _ (sym (c .before .same2 .ensures) ∙ c .if2 .taken))
 
 slice-aggregate-begins : tie.Need-slice-aggregate-begins
 slice-aggregate-begins c = search needs
@@ -30,7 +33,12 @@ begins-requires : tie.Need-begins-requires
 begins-requires c κs = search needs
 
 returns-3 : tie.Need-returns-3
-returns-3 c = next _ _ _ (sym (c .before .before .before .before .before .before .before .same .ensures) ∙ c .before .before .before .before .before .before .if1 .left) (next _ _ _ (sym (c .before .before .before .before .same2 .ensures) ∙ c .before .before .before .if2 .left) (first _ _ _ (sym (c .before .begins .ensures) ∙ c .if3 .taken)))
+returns-3 c =
+    let at-if2 = c .before .before .before in
+    let at-same2 = at-if2 .before in
+    let at-if1 = at-same2 .before .before in
+    let at-same = at-if1 .before in
+    next _ _ _ (sym (at-same .same .ensures) ∙ at-if1 .if1 .left) (next _ _ _ (sym (at-same2 .same2 .ensures) ∙ at-if2 .if2 .left) (first _ _ _ (sym (c .before .begins .ensures) ∙ c .if3 .taken)))
 
 slice-aggregate-accepted : tie.Need-slice-aggregate-accepted
 slice-aggregate-accepted c = search needs
@@ -39,7 +47,15 @@ accepted-requires : tie.Need-accepted-requires
 accepted-requires c κs = search needs
 
 returns-4 : tie.Need-returns-4
-returns-4 c = next _ _ _ (sym (c .before .before .before .before .before .before .before .before .before .same .ensures) ∙ c .before .before .before .before .before .before .before .before .if1 .left) (next _ _ _ (sym (c .before .before .before .before .before .before .same2 .ensures) ∙ c .before .before .before .before .before .if2 .left) (next _ _ _ (sym (c .before .before .before .begins .ensures) ∙ c .before .before .if3 .left) (c .accepted .ensures)))
+returns-4 c =
+    let at-if3 = c .before .before in
+    let at-begins = at-if3 .before in
+    let at-if2 = at-begins .before .before in
+    let at-same2 = at-if2 .before in
+    let at-if1 = at-same2 .before .before in
+    let at-same = at-if1 .before in
+    next _ _ _ (sym (at-same .same .ensures) ∙ at-if1 .if1 .left)
+    (next _ _ _ (sym (at-same2 .same2 .ensures) ∙ at-if2 .if2 .left) (next _ _ _ (sym (at-begins .begins .ensures) ∙ at-if3 .if3 .left) (c .accepted .ensures)))
 
 pub ats-kind-spec : {M : Type 1} → statement M
 ats-kind-spec =

@@ -23,7 +23,10 @@ is-command-requires-2 c κs = search needs
 
 returns-2 : tie.Need-returns-2
 unfolding framingEffect
-returns-2 c = simp (sym (c .before .before .before .before .is-command .ensures) ∙ c .before .before .before .if1 .left, sym (c .before .is-command2 .ensures) ∙ c .if2 .taken)
+returns-2 c =
+    let at-if1 = c .before .before .before in
+    let at-is-command = at-if1 .before in
+    simp (sym (at-is-command .is-command .ensures) ∙ at-if1 .if1 .left, sym (c .before .is-command2 .ensures) ∙ c .if2 .taken)
 
 slice-aggregate-is-command-3 : tie.Need-slice-aggregate-is-command-3
 slice-aggregate-is-command-3 c = search needs
@@ -33,11 +36,21 @@ is-command-requires-3 c κs = search needs
 
 returns-3 : tie.Need-returns-3
 unfolding framingEffect
-returns-3 c = simp (sym (c .before .before .before .before .before .before .before .is-command .ensures) ∙ c .before .before .before .before .before .before .if1 .left, sym (c .before .before .before .before .is-command2 .ensures) ∙ c .before .before .before .if2 .left, sym (c .before .is-command3 .ensures) ∙ c .if3 .taken)
+returns-3 c =
+    let at-if2 = c .before .before .before in
+    let at-is-command2 = at-if2 .before in
+    let at-if1 = at-is-command2 .before .before in
+    let at-is-command = at-if1 .before in
+    simp (sym (at-is-command .is-command .ensures) ∙ at-if1 .if1 .left, sym (at-is-command2 .is-command2 .ensures) ∙ at-if2 .if2 .left, sym (c .before .is-command3 .ensures) ∙ c .if3 .taken)
 
 returns-4 : tie.Need-returns-4
 unfolding framingEffect
-returns-4 c = simp (sym (c .before .before .before .before .before .before .before .is-command .ensures) ∙ c .before .before .before .before .before .before .if1 .left, sym (c .before .before .before .before .is-command2 .ensures) ∙ c .before .before .before .if2 .left, sym (c .before .is-command3 .ensures) ∙ c .if3 .left)
+returns-4 c =
+    let at-if2 = c .before .before .before in
+    let at-is-command2 = at-if2 .before in
+    let at-if1 = at-is-command2 .before .before in
+    let at-is-command = at-if1 .before in
+    simp (sym (at-is-command .is-command .ensures) ∙ at-if1 .if1 .left, sym (at-is-command2 .is-command2 .ensures) ∙ at-if2 .if2 .left, sym (c .before .is-command3 .ensures) ∙ c .if3 .left)
 
 pub framing-effect-spec : {M : Type 1} → statement M
 framing-effect-spec =

@@ -19,10 +19,14 @@ abbrev μ-loop : tie.MeasureT-loop
 μ-loop command text i₀ i = length text - i
 
 returns : tie.Need-returns Inv-loop μ-loop
-returns c = sym (command-long (c .before .before .before .args .command .now) (c .before .before .before .args .text .now) (c .if1 .taken))
+returns c =
+    let start = c .before .before .before in
+    sym (command-long (start .args .command .now) (start .args .text .now) (c .if1 .taken))
 
 loop-holds : tie.Need-loop-holds Inv-loop μ-loop
-loop-holds c = (omega arith, sym (command-begins (c .before .before .before .args .command .now) (c .before .before .before .args .text .now) (c .if1 .left)))
+loop-holds c =
+    let start = c .before .before .before in
+    (omega arith, sym (command-begins (start .args .command .now) (start .args .text .now) (c .if1 .left)))
 
 shared-slice-read-raise : tie.Need-shared-slice-read-raise Inv-loop μ-loop
 shared-slice-read-raise c = search needs
@@ -34,7 +38,13 @@ shared-slice-read-if2 : tie.Need-shared-slice-read-if2 Inv-loop μ-loop
 shared-slice-read-if2 c = search needs
 
 returns-2 : tie.Need-returns-2 Inv-loop μ-loop
-returns-2 c = sym (raised-differ (c .before .before .before .before .before .before .before .before .before .args .command .now) (c .before .before .before .before .before .before .before .before .before .args .text .now) (c .before .before .before .before .before .loop .i) (omega arith) (c .before .before .before .before .loop-test .taken) (λ e. c .if2 .taken (c .before .before .raise .ensures ∙ e))) ∙ c .before .before .before .before .before .loop .inv .1
+returns-2 c =
+    let at-raise = c .before .before in
+    let at-loop-test = at-raise .before .before in
+    let at-loop = at-loop-test .before in
+    let start = at-loop .before .before .before .before in
+    sym (raised-differ (start .args .command .now) (start .args .text .now) (at-loop .loop .i) (omega arith) (at-loop-test .loop-test .taken)
+    (λ e. c .if2 .taken (at-raise .raise .ensures ∙ e))) ∙ at-loop .loop .inv .1
 
 add-i : tie.Need-add-i Inv-loop μ-loop
 add-i c = search needs
@@ -43,7 +53,15 @@ loop-less : tie.Need-loop-less Inv-loop μ-loop
 loop-less c = search needs
 
 loop-again : tie.Need-loop-again Inv-loop μ-loop
-loop-again c = (search needs, sym (raised-next (c .before .before .before .before .before .before .before .before .before .args .command .now) (c .before .before .before .before .before .before .before .before .before .args .text .now) (c .before .before .before .before .before .loop .i) (omega arith) (c .before .before .before .before .loop-test .taken) (sym (c .before .before .raise .ensures) ∙ c .if2 .left)) ∙ c .before .before .before .before .before .loop .inv .1)
+loop-again c =
+    let at-raise = c .before .before in
+    let at-loop-test = at-raise .before .before in
+    let at-loop = at-loop-test .before in
+    let start = at-loop .before .before .before .before in (
+      search needs,
+      sym (raised-next (start .args .command .now) (start .args .text .now) (at-loop .loop .i) (omega arith) (at-loop-test .loop-test .taken)
+          (sym (at-raise .raise .ensures) ∙ c .if2 .left)) ∙ at-loop .loop .inv .1,
+    )
 
 returns-3 : tie.Need-returns-3 Inv-loop μ-loop
 returns-3 c = sym (begins-end _ _ _ (c .loop-test .left)) ∙ c .before .loop .inv .1

@@ -1,7 +1,5 @@
 -- `client_command::put_command` meets its contract.
 use Prim.Native.Nat.{_-_}
-use native.Mathlib.Omega.{arith}
-use lib.ListN.{length}
 use borrow.Author.Needs.{needs}
 use Rattle.wire.proofs.PutLaws.{put-then}
 use Rattle.client_command.proofs.CommandLaws.{cr-there, cr-added, cr-alone}
@@ -18,7 +16,12 @@ same-length : tie.Need-same-length
 same-length c = search needs
 
 returns : tie.Need-returns
-returns c = rw (cr-alone (c .before .before .before .before .before .before .before .before .before .before .before .args .command .now) (c .before .before .before .before .if1 .taken)) (put-then (c .before .before .before .before .before .before .before .put .ensures) (c .before .before .put-byte .ensures))
+returns c =
+    let at-put-byte = c .before .before in
+    let at-if1 = at-put-byte .before .before in
+    let at-put = at-if1 .before .before .before in
+    let start = at-put .before .before .before .before in
+    rw (cr-alone (start .args .command .now) (at-if1 .if1 .taken)) (put-then (at-put .put .ensures) (at-put-byte .put-byte .ensures))
 
 sub-if2 : tie.Need-sub-if2
 sub-if2 c = search needs
@@ -30,7 +33,11 @@ same-length-2 : tie.Need-same-length-2
 same-length-2 c = search needs
 
 returns-2 : tie.Need-returns-2
-returns-2 c = rw (cr-there (c .before .before .before .before .before .before .before .before .before .args .command .now) (length (c .before .before .before .before .before .before .before .before .before .args .command .now) - 1) (omega arith) (c .if2 .taken)) (c .before .before .before .before .before .put .ensures)
+returns-2 c =
+    let at-if1 = c .before .before in
+    let at-put = at-if1 .before .before .before in
+    let start = at-put .before .before .before .before in
+    rw (cr-there (start .args .command .now) (at-if1 .if1 .left) (c .if2 .taken)) (at-put .put .ensures)
 
 put-byte-requires-2 : tie.Need-put-byte-requires-2
 put-byte-requires-2 c κs = search needs
@@ -39,7 +46,13 @@ same-length-3 : tie.Need-same-length-3
 same-length-3 c = search needs
 
 returns-3 : tie.Need-returns-3
-returns-3 c = rw (cr-added (c .before .before .before .before .before .before .before .before .before .before .before .before .before .args .command .now) (length (c .before .before .before .before .before .before .before .before .before .before .before .before .before .args .command .now) - 1) (omega arith) (c .before .before .before .before .if2 .left)) (put-then (c .before .before .before .before .before .before .before .before .before .put .ensures) (c .before .before .put-byte2 .ensures))
+returns-3 c =
+    let at-put-byte2 = c .before .before in
+    let at-if2 = at-put-byte2 .before .before in
+    let at-if1 = at-if2 .before .before in
+    let at-put = at-if1 .before .before .before in
+    let start = at-put .before .before .before .before in
+    rw (cr-added (start .args .command .now) (at-if1 .if1 .left) (at-if2 .if2 .left)) (put-then (at-put .put .ensures) (at-put-byte2 .put-byte2 .ensures))
 
 pub put-command-spec : {M : Type 1} → statement M
 put-command-spec =

@@ -1,5 +1,4 @@
 -- `client_command::put_setup` meets its contract.
-use native.Mathlib.Omega.{arith}
 use borrow.Author.Needs.{needs}
 use Rattle.client_command.proofs.CommandLaws.{setup-last}
 use Rattle.client_command.proofs.put_setup.Statement.{statement}
@@ -15,7 +14,10 @@ same-length : tie.Need-same-length
 same-length c = search needs
 
 returns : tie.Need-returns
-returns c = rw (c .before .before .before .before .before .if1 .taken) (c .before .before .put .ensures)
+returns c =
+    let at-put = c .before .before in
+    let at-if1 = at-put .before .before .before in
+    rw (at-if1 .if1 .taken) (at-put .put .ensures)
 
 slice-aggregate-put-2 : tie.Need-slice-aggregate-put-2
 slice-aggregate-put-2 c = search needs
@@ -27,7 +29,10 @@ same-length-2 : tie.Need-same-length-2
 same-length-2 c = search needs
 
 returns-2 : tie.Need-returns-2
-returns-2 c = rw (c .before .before .before .before .before .if2 .taken) (c .before .before .put2 .ensures)
+returns-2 c =
+    let at-put2 = c .before .before in
+    let at-if2 = at-put2 .before .before .before in
+    rw (at-if2 .if2 .taken) (at-put2 .put2 .ensures)
 
 slice-aggregate-put-3 : tie.Need-slice-aggregate-put-3
 slice-aggregate-put-3 c = search needs
@@ -39,7 +44,10 @@ same-length-3 : tie.Need-same-length-3
 same-length-3 c = search needs
 
 returns-3 : tie.Need-returns-3
-returns-3 c = rw (c .before .before .before .before .before .if3 .taken) (c .before .before .put3 .ensures)
+returns-3 c =
+    let at-put3 = c .before .before in
+    let at-if3 = at-put3 .before .before .before in
+    rw (at-if3 .if3 .taken) (at-put3 .put3 .ensures)
 
 slice-aggregate-put-4 : tie.Need-slice-aggregate-put-4
 slice-aggregate-put-4 c = search needs
@@ -51,7 +59,10 @@ same-length-4 : tie.Need-same-length-4
 same-length-4 c = search needs
 
 returns-4 : tie.Need-returns-4
-returns-4 c = rw (c .before .before .before .before .before .if4 .taken) (c .before .before .put4 .ensures)
+returns-4 c =
+    let at-put4 = c .before .before in
+    let at-if4 = at-put4 .before .before .before in
+    rw (at-if4 .if4 .taken) (at-put4 .put4 .ensures)
 
 slice-aggregate-put-5 : tie.Need-slice-aggregate-put-5
 slice-aggregate-put-5 c = search needs
@@ -63,7 +74,15 @@ same-length-5 : tie.Need-same-length-5
 same-length-5 c = search needs
 
 returns-5 : tie.Need-returns-5
-returns-5 c = rw (setup-last (c .before .before .before .before .before .before .before .before .before .before .before .args .framing) (c .before .before .before .before .before .before .before .before .before .before .before .args .k) (omega arith), c .before .before .before .before .before .if5 .taken) (c .before .before .put5 .ensures)
+returns-5 c =
+    let at-put5 = c .before .before in
+    let at-if5 = at-put5 .before .before .before in
+    let at-if4 = at-if5 .before in
+    let at-if3 = at-if4 .before in
+    let at-if2 = at-if3 .before in
+    let at-if1 = at-if2 .before in
+    let a = at-if1 .before .before .args in
+    rw (setup-last (a .framing) (a .k) (at-if1 .if1 .left) (at-if2 .if2 .left) (at-if3 .if3 .left) (at-if4 .if4 .left), at-if5 .if5 .taken) (at-put5 .put5 .ensures)
 
 slice-aggregate-put-6 : tie.Need-slice-aggregate-put-6
 slice-aggregate-put-6 c = search needs
@@ -75,7 +94,15 @@ same-length-6 : tie.Need-same-length-6
 same-length-6 c = search needs
 
 returns-6 : tie.Need-returns-6
-returns-6 c = rw (setup-last (c .before .before .before .before .before .before .before .before .before .before .before .args .framing) (c .before .before .before .before .before .before .before .before .before .before .before .args .k) (omega arith), c .before .before .before .before .before .if5 .left) (c .before .before .put6 .ensures)
+returns-6 c =
+    let at-put6 = c .before .before in
+    let at-if5 = at-put6 .before .before .before in
+    let at-if4 = at-if5 .before in
+    let at-if3 = at-if4 .before in
+    let at-if2 = at-if3 .before in
+    let at-if1 = at-if2 .before in
+    let a = at-if1 .before .before .args in
+    rw (setup-last (a .framing) (a .k) (at-if1 .if1 .left) (at-if2 .if2 .left) (at-if3 .if3 .left) (at-if4 .if4 .left), at-if5 .if5 .left) (at-put6 .put6 .ensures)
 
 pub put-setup-spec : {M : Type 1} → statement M
 put-setup-spec =

@@ -1,9 +1,5 @@
--- `hex::hex_pair` meets its contract. The sum fits a byte since both digits are below 16.
-use mathlib.Core.Path.{sym, ap, _∙_}
-use native.Mathlib.Omega.{arith}
+-- `hex::hex_pair` meets its contract.
 use borrow.Author.Needs.{needs}
-use Rattle.hex.specs.Answers.{digitOf}
-use Rattle.hex.proofs.ReadLaws.{below-at, leading-small, digit-small}
 use Rattle.hex.proofs.hex_pair.Statement.{statement}
 use Rattle.hex.proofs.hex_pair.Tie as tie
 
@@ -29,20 +25,28 @@ enum-told-2 : tie.Need-enum-told-2
 enum-told-2 c = search needs
 
 returns-2 : tie.Need-returns-2
-returns-2 c = simp (← c .before .before .before .before .before .before .leading-digit .ensures, c .before .before .before .before .high .given .1, ← c .before .before .hex-digit .ensures, c .enum-told2 .given .1)
+returns-2 c =
+    let second = c .before .before in
+    let first = second .before .before in
+    simp (← first .before .before .leading-digit .ensures, first .high .given .1, ← second .hex-digit .ensures, c .enum-told2 .given .1)
 
-mul-t7 : tie.Need-mul-t7
-mul-t7 c = omega (arith, below-at 16 (leading-small _) (sym (c .before .before .before .before .before .before .before .leading-digit .ensures) ∙ ap digitOf (c .before .before .before .before .before .high .given .1)))
+cast-t7 : tie.Need-cast-t7
+cast-t7 c = search needs
 
-add-t8 : tie.Need-add-t8
-add-t8 c = omega (
-  arith,
-  below-at 16 (leading-small _) (sym (c .before .before .before .before .before .before .before .leading-digit .ensures) ∙ ap digitOf (c .before .before .before .before .before .high .given .1)),
-  below-at 16 (digit-small _) (sym (c .before .before .before .hex-digit .ensures) ∙ ap digitOf (c .before .low .given .1)),
-)
+mul-t8 : tie.Need-mul-t8
+mul-t8 c = search needs
+
+cast-t9 : tie.Need-cast-t9
+cast-t9 c = search needs
+
+add-t10 : tie.Need-add-t10
+add-t10 c = search needs
 
 returns-3 : tie.Need-returns-3
-returns-3 c = simp (← c .before .before .before .before .before .before .before .leading-digit .ensures, c .before .before .before .before .before .high .given .1, ← c .before .before .before .hex-digit .ensures, c .before .low .given .1)
+returns-3 c =
+    let second = c .before in
+    let first = second .before .before .before .before in
+    simp (← first .before .before .leading-digit .ensures, first .high .given .1, ← second .before .before .hex-digit .ensures, second .low .given .1)
 
 pub hex-pair-spec : {M : Type 1} → statement M
 hex-pair-spec =
@@ -56,6 +60,8 @@ hex-pair-spec =
     enum-known-low
     enum-told-2
     returns-2
-    mul-t7
-    add-t8
+    cast-t7
+    mul-t8
+    cast-t9
+    add-t10
     returns-3)

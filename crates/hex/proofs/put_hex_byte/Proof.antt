@@ -21,7 +21,12 @@ same-length : tie.Need-same-length
 same-length c = search needs
 
 returns : tie.Need-returns
-returns c = put-digit 1 _ (put-digit 0 _ (put-none _ _) (c .before .before .before .before .before .before .before .before .hex-char .ensures) (c .before .before .before .before .before .before .before .put-byte .ensures)) (c .before .before .before .hex-char2 .ensures) (c .before .before .put-byte2 .ensures)
+returns c =
+    let at-put-byte2 = c .before .before in
+    let at-hex-char2 = at-put-byte2 .before in
+    let at-put-byte = at-hex-char2 .before .before .before .before in
+    let at-hex-char = at-put-byte .before in
+    put-digit 1 _ (put-digit 0 _ (put-none _ _) (at-hex-char .hex-char .ensures) (at-put-byte .put-byte .ensures)) (at-hex-char2 .hex-char2 .ensures) (at-put-byte2 .put-byte2 .ensures)
 
 pub put-hex-byte-spec : {M : Type 1} → statement M
 put-hex-byte-spec =

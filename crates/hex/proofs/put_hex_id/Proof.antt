@@ -26,7 +26,11 @@ same-length : tie.Need-same-length
 same-length c = search needs
 
 returns : tie.Need-returns
-returns c = put-digit 2 _ (rw byte-low at (c .before .before .before .before .before .before .before .put-hex-byte .ensures)) (c .before .before .before .hex-char .ensures ∙ ap hexDigit (omega arith)) (c .before .before .put-byte .ensures)
+returns c =
+    let at-put-byte = c .before .before in
+    let at-hex-char = at-put-byte .before in
+    let at-put-hex-byte = at-hex-char .before .before .before .before in
+    put-digit 2 _ (rw byte-low at (at-put-hex-byte .put-hex-byte .ensures)) (at-hex-char .hex-char .ensures ∙ ap hexDigit (omega arith)) (at-put-byte .put-byte .ensures)
 
 pub put-hex-id-spec : {M : Type 1} → statement M
 put-hex-id-spec =

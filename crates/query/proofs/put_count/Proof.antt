@@ -23,7 +23,11 @@ same-length : tie.Need-same-length
 same-length c = search needs
 
 returns-2 : tie.Need-returns-2
-returns-2 c = rw (c .before .before .before .before .before .before .before .before .before .count .given .1) (put-then (c .before .before .before .before .before .before .put-byte .ensures) (c .before .before .put-decimal .ensures))
+returns-2 c =
+    let at-put-decimal = c .before .before in
+    let at-put-byte = at-put-decimal .before .before .before .before in
+    let at-count = at-put-byte .before .before .before in
+    rw (at-count .count .given .1) (put-then (at-put-byte .put-byte .ensures) (at-put-decimal .put-decimal .ensures))
 
 pub put-count-spec : {M : Type 1} → statement M
 put-count-spec =

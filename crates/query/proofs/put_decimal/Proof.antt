@@ -15,7 +15,10 @@ same-length : tie.Need-same-length
 same-length c = search needs
 
 returns : tie.Need-returns
-returns c = rw (decimal-one _ (c .before .before .before .before .if1 .taken)) (c .before .before .put-byte .ensures)
+returns c =
+    let at-put-byte = c .before .before in
+    let at-if1 = at-put-byte .before .before in
+    rw (decimal-one _ (at-if1 .if1 .taken)) (at-put-byte .put-byte .ensures)
 
 add-put-byte-2 : tie.Need-add-put-byte-2
 add-put-byte-2 c = search needs
@@ -33,7 +36,12 @@ same-length-2 : tie.Need-same-length-2
 same-length-2 c = search needs
 
 returns-2 : tie.Need-returns-2
-returns-2 c = rw (decimal-two _ (c .before .before .before .before .before .before .before .before .before .if1 .left) (c .before .before .before .before .before .before .before .before .if2 .taken)) (put-then (c .before .before .before .before .before .before .put-byte2 .ensures) (c .before .before .put-byte3 .ensures))
+returns-2 c =
+    let at-put-byte3 = c .before .before in
+    let at-put-byte2 = at-put-byte3 .before .before .before .before in
+    let at-if2 = at-put-byte2 .before .before in
+    let at-if1 = at-if2 .before in
+    rw (decimal-two _ (at-if1 .if1 .left) (at-if2 .if2 .taken)) (put-then (at-put-byte2 .put-byte2 .ensures) (at-put-byte3 .put-byte3 .ensures))
 
 add-put-byte-4 : tie.Need-add-put-byte-4
 add-put-byte-4 c = search needs
@@ -57,7 +65,12 @@ same-length-3 : tie.Need-same-length-3
 same-length-3 c = search needs
 
 returns-3 : tie.Need-returns-3
-returns-3 c = rw (decimal-three _ (c .before .before .before .before .before .before .before .before .before .before .before .before .if2 .left)) (put-then (c .before .before .before .before .before .before .before .before .before .before .put-byte4 .ensures) (put-then (c .before .before .before .before .before .before .put-byte5 .ensures) (c .before .before .put-byte6 .ensures)))
+returns-3 c =
+    let at-put-byte6 = c .before .before in
+    let at-put-byte5 = at-put-byte6 .before .before .before .before in
+    let at-put-byte4 = at-put-byte5 .before .before .before .before in
+    let at-if2 = at-put-byte4 .before .before in
+    rw (decimal-three _ (at-if2 .if2 .left)) (put-then (at-put-byte4 .put-byte4 .ensures) (put-then (at-put-byte5 .put-byte5 .ensures) (at-put-byte6 .put-byte6 .ensures)))
 
 pub put-decimal-spec : {M : Type 1} → statement M
 put-decimal-spec =

@@ -32,10 +32,20 @@ add-i : tie.Need-add-i Inv-loop μ-loop
 add-i c = search needs
 
 loop-less : tie.Need-loop-less Inv-loop μ-loop
-loop-less c = omega (arith, c .before .before .before .before .before .loop-test .taken)
+loop-less c =
+    let at-loop-test = c .before .before .before .before .before in
+    omega (arith, at-loop-test .loop-test .taken)
 
 loop-again : tie.Need-loop-again Inv-loop μ-loop
-loop-again c = (omega arith, put-length (c .before .before .put-hex-byte .ensures) ∙ c .before .before .before .before .before .before .loop .inv .1, pids-step _ _ (c .before .before .before .before .before .before .loop .inv .2) (c .before .before .before .before .before .loop-test .taken) (c .before .before .put-hex-byte .ensures))
+loop-again c =
+    let at-put-hex-byte = c .before .before in
+    let at-loop-test = at-put-hex-byte .before .before .before in
+    let at-loop = at-loop-test .before in (
+      omega arith,
+      put-length (at-put-hex-byte .put-hex-byte .ensures) ∙ at-loop .loop .inv .1,
+      pids-step _ _ (at-loop .loop .inv .2) (at-loop-test .loop-test .taken)
+          (at-put-hex-byte .put-hex-byte .ensures),
+    )
 
 same-length : tie.Need-same-length Inv-loop μ-loop
 same-length c = c .before .loop .inv .1

@@ -22,7 +22,11 @@ same-length c = search needs
 
 returns : tie.Need-returns
 unfolding queryText
-returns c = put-then (c .before .before .before .before .before .before .before .before .before .before .put .ensures) (put-then (c .before .before .before .before .before .before .put-pids .ensures) (c .before .before .put-count .ensures))
+returns c =
+    let at-put-count = c .before .before in
+    let at-put-pids = at-put-count .before .before .before .before in
+    let at-put = at-put-pids .before .before .before .before in
+    put-then (at-put .put .ensures) (put-then (at-put-pids .put-pids .ensures) (at-put-count .put-count .ensures))
 
 pub put-query-spec : {M : Type 1} → statement M
 put-query-spec =

@@ -15,16 +15,25 @@ same-length : tie.Need-same-length
 same-length c = search needs
 
 returns : tie.Need-returns
-returns c = rw (not-true (c .before .before .before .before .before .before .before .args .framing) (c .before .before .before .before .if1 .taken), line-unframed) (record { ecu = refl; bytes = c .before .before .put-pairs .ensures })
+returns c =
+    let at-put-pairs = c .before .before in
+    let at-if1 = at-put-pairs .before .before in
+    let start = at-if1 .before .before .before in
+    rw (not-true (start .args .framing) (at-if1 .if1 .taken), line-unframed) (record { ecu = refl; bytes = at-put-pairs .put-pairs .ensures })
 
 read-head-requires : tie.Need-read-head-requires
 read-head-requires c κs = search needs
 
 array-share-prefix-chars : tie.Need-array-share-prefix-chars
-array-share-prefix-chars c = omega (arith, c .before .before .before .read-head .ensures .five, c .before .if2 .taken)
+array-share-prefix-chars c =
+    let at-read-head = c .before .before .before in
+    omega (arith, at-read-head .read-head .ensures .five, c .before .if2 .taken)
 
 slice-aggregate-put : tie.Need-slice-aggregate-put
-slice-aggregate-put c = omega (arith, length-take (c .before .before .before .before .read-head .result .len) (c .before .before .before .before .read-head .result .chars), c .before .before .before .before .read-head .ensures .five, c .before .before .if2 .taken)
+slice-aggregate-put c =
+    let at-if2 = c .before .before in
+    let at-read-head = at-if2 .before .before in
+    omega (arith, length-take (at-read-head .read-head .result .len) (at-read-head .read-head .result .chars), at-read-head .read-head .ensures .five, at-if2 .if2 .taken)
 
 put-requires : tie.Need-put-requires
 put-requires c κs = search needs
@@ -33,7 +42,13 @@ same-length-2 : tie.Need-same-length-2
 same-length-2 c = search needs
 
 returns-2 : tie.Need-returns-2
-returns-2 c = rw (not-false (c .before .before .before .before .before .before .before .before .before .before .before .args .framing) (c .before .before .before .before .before .before .before .before .if1 .left), head-short _ _ (c .before .before .before .before .before .before .before .read-head .ensures) (c .before .before .before .before .before .if2 .taken)) (record { ecu = refl; bytes = c .before .before .put .ensures })
+returns-2 c =
+    let at-put = c .before .before in
+    let at-if2 = at-put .before .before .before in
+    let at-read-head = at-if2 .before .before in
+    let at-if1 = at-read-head .before in
+    let start = at-if1 .before .before .before in
+    rw (not-false (start .args .framing) (at-if1 .if1 .left), head-short _ _ (at-read-head .read-head .ensures) (at-if2 .if2 .taken)) (record { ecu = refl; bytes = at-put .put .ensures })
 
 put-pairs-requires-2 : tie.Need-put-pairs-requires-2
 put-pairs-requires-2 c κs = search needs
@@ -54,7 +69,14 @@ same-length-3 : tie.Need-same-length-3
 same-length-3 c = search needs
 
 returns-3 : tie.Need-returns-3
-returns-3 c = rw (not-false (c .before .before .before .before .before .before .before .before .before .before .before .args .framing) (c .before .before .before .before .before .before .before .before .if1 .left), head-framed _ _ (c .before .before .before .before .before .before .before .read-head .ensures) (c .before .before .before .before .before .if2 .left)) (record { ecu = c .ecu-of .ensures; bytes = c .before .before .before .put-pairs2 .ensures })
+returns-3 c =
+    let at-put-pairs2 = c .before .before .before in
+    let at-if2 = at-put-pairs2 .before .before in
+    let at-read-head = at-if2 .before .before in
+    let at-if1 = at-read-head .before in
+    let start = at-if1 .before .before .before in
+    rw (not-false (start .args .framing) (at-if1 .if1 .left), head-framed _ _ (at-read-head .read-head .ensures) (at-if2 .if2 .left))
+    (record { ecu = c .ecu-of .ensures; bytes = at-put-pairs2 .put-pairs2 .ensures })
 
 pub decode-line-spec : {M : Type 1} → statement M
 decode-line-spec =

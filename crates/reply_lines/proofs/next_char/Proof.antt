@@ -23,7 +23,9 @@ shared-slice-read-if1 : tie.Need-shared-slice-read-if1 Inv-loop μ-loop
 shared-slice-read-if1 c = search needs
 
 returns : tie.Need-returns Inv-loop μ-loop
-returns c = record { after = c .before .before .before .loop .inv .0; inside = c .before .before .before .loop .inv .1; reads = c .before .before .before .loop .inv .2; char = λ _. c .if1 .taken }
+returns c =
+    let at-loop = c .before .before .before in
+    record { after = at-loop .loop .inv .0; inside = at-loop .loop .inv .1; reads = at-loop .loop .inv .2; char = λ _. c .if1 .taken }
 
 add-i : tie.Need-add-i Inv-loop μ-loop
 add-i c = search needs
@@ -32,7 +34,10 @@ loop-less : tie.Need-loop-less Inv-loop μ-loop
 loop-less c = search needs
 
 loop-again : tie.Need-loop-again Inv-loop μ-loop
-loop-again c = (omega arith, omega arith, sym (space-here _ _ (c .before .before .loop-test .taken) (c .if1 .left)) ∙ c .before .before .before .loop .inv .2)
+loop-again c =
+    let at-loop-test = c .before .before in
+    let at-loop = at-loop-test .before in
+    (omega arith, omega arith, sym (space-here _ _ (at-loop-test .loop-test .taken) (c .if1 .left)) ∙ at-loop .loop .inv .2)
 
 returns-2 : tie.Need-returns-2 Inv-loop μ-loop
 returns-2 c = record { after = c .before .loop .inv .0; inside = c .before .loop .inv .1; reads = c .before .loop .inv .2; char = λ h. absurd (omega arith) }

@@ -5,7 +5,7 @@ use native.Mathlib.Omega.{arith}
 use lib.ListN.{length}
 use borrow.Author.Needs.{needs}
 use Rattle.reply_lines.proofs.TurnLaws.{cr-inside, next-after, text-fits, from-line, from-skip, from-end, end-fits}
-use Rattle.reply_lines.specs.Answers.{lineFrom}
+use Rattle.reply_lines.specs.Reader.{lineFrom}
 use Rattle.reply_lines.proofs.next_line.Statement.{statement}
 use Rattle.reply_lines.proofs.next_line.Tie as tie
 
@@ -37,7 +37,10 @@ trim-start-requires : tie.Need-trim-start-requires Inv-loop μ-loop
 trim-start-requires c κs = search needs
 
 sub-start : tie.Need-sub-start Inv-loop μ-loop
-sub-start c = omega (arith, text-fits _ _ _ (c .before .before .before .before .loop-test .taken) (c .before .before .before .find-cr .ensures) _ (c .trim-start .ensures))
+sub-start c =
+    let at-find-cr = c .before .before .before in
+    let at-loop-test = at-find-cr .before in
+    omega (arith, text-fits _ _ _ (at-loop-test .loop-test .taken) (at-find-cr .find-cr .ensures) _ (c .trim-start .ensures))
 
 trim-end-requires : tie.Need-trim-end-requires Inv-loop μ-loop
 trim-end-requires c κs = search needs
@@ -46,16 +49,49 @@ stays-requires : tie.Need-stays-requires Inv-loop μ-loop
 stays-requires c κs = search needs
 
 add-t16 : tie.Need-add-t16 Inv-loop μ-loop
-add-t16 c = record { fits = omega (arith, end-fits _ _ _ (c .before .before .before .before .before .before .before .loop-test .taken) (c .before .before .before .before .before .before .find-cr .ensures) _ (c .before .before .before .before .before .past-cr .ensures) _ (c .before .before .before .trim-start .ensures) _ (c .before .before .trim-end .ensures), cr-inside _ _ _ (c .before .before .before .before .before .before .before .loop-test .taken) (c .before .before .before .before .before .before .find-cr .ensures)) }
+add-t16 c =
+    let at-trim-end = c .before .before in
+    let at-trim-start = at-trim-end .before in
+    let at-past-cr = at-trim-start .before .before in
+    let at-find-cr = at-past-cr .before in
+    let at-loop-test = at-find-cr .before in
+    record {
+      fits = omega (
+        arith,
+        end-fits _ _ _ (at-loop-test .loop-test .taken) (at-find-cr .find-cr .ensures) _ (at-past-cr .past-cr .ensures) _ (at-trim-start .trim-start .ensures) _
+            (at-trim-end .trim-end .ensures),
+        cr-inside _ _ _ (at-loop-test .loop-test .taken) (at-find-cr .find-cr .ensures),
+      );
+    }
 
 returns : tie.Need-returns Inv-loop μ-loop
-returns c = sym (from-line _ _ _ (c .before .before .before .before .before .before .before .loop-test .taken) (c .before .before .before .before .before .before .find-cr .ensures) _ (c .before .before .before .before .before .past-cr .ensures) _ (c .before .before .before .trim-start .ensures) _ (c .before .before .trim-end .ensures) (sym (c .before .stays .ensures) ∙ c .if1 .taken)) ∙ c .before .before .before .before .before .before .before .before .loop .inv
+returns c =
+    let at-trim-end = c .before .before in
+    let at-trim-start = at-trim-end .before in
+    let at-past-cr = at-trim-start .before .before in
+    let at-find-cr = at-past-cr .before in
+    let at-loop-test = at-find-cr .before in
+    let at-loop = at-loop-test .before in
+    sym (from-line _ _ _ (at-loop-test .loop-test .taken) (at-find-cr .find-cr .ensures) _ (at-past-cr .past-cr .ensures) _ (at-trim-start .trim-start .ensures) _
+    (at-trim-end .trim-end .ensures) (sym (c .before .stays .ensures) ∙ c .if1 .taken)) ∙ at-loop .loop .inv
 
 loop-less : tie.Need-loop-less Inv-loop μ-loop
-loop-less c = omega (arith, next-after _ _ _ (c .before .before .before .before .before .before .before .loop-test .taken) (c .before .before .before .before .before .before .find-cr .ensures) _ (c .before .before .before .before .before .past-cr .ensures))
+loop-less c =
+    let at-past-cr = c .before .before .before .before .before in
+    let at-find-cr = at-past-cr .before in
+    let at-loop-test = at-find-cr .before in
+    omega (arith, next-after _ _ _ (at-loop-test .loop-test .taken) (at-find-cr .find-cr .ensures) _ (at-past-cr .past-cr .ensures))
 
 loop-again : tie.Need-loop-again Inv-loop μ-loop
-loop-again c = sym (from-skip _ _ _ (c .before .before .before .before .before .before .before .loop-test .taken) (c .before .before .before .before .before .before .find-cr .ensures) _ (c .before .before .before .before .before .past-cr .ensures) _ (c .before .before .before .trim-start .ensures) _ (c .before .before .trim-end .ensures) (sym (c .before .stays .ensures) ∙ c .if1 .left)) ∙ c .before .before .before .before .before .before .before .before .loop .inv
+loop-again c =
+    let at-trim-end = c .before .before in
+    let at-trim-start = at-trim-end .before in
+    let at-past-cr = at-trim-start .before .before in
+    let at-find-cr = at-past-cr .before in
+    let at-loop-test = at-find-cr .before in
+    let at-loop = at-loop-test .before in
+    sym (from-skip _ _ _ (at-loop-test .loop-test .taken) (at-find-cr .find-cr .ensures) _ (at-past-cr .past-cr .ensures) _ (at-trim-start .trim-start .ensures) _
+    (at-trim-end .trim-end .ensures) (sym (c .before .stays .ensures) ∙ c .if1 .left)) ∙ at-loop .loop .inv
 
 returns-2 : tie.Need-returns-2 Inv-loop μ-loop
 returns-2 c = sym (from-end _ _ (c .loop-test .left)) ∙ c .before .loop .inv

@@ -1,6 +1,11 @@
 -- `reply_lines::put_pair` meets its contract: a good pair is a byte, a bad one nothing.
-use borrow.Author.Needs.{needs}
+use Rattle.hex.proofs.ReadLaws.{below-at, number-small}
+use Rattle.hex.specs.Answers.{hexOf}
 use Rattle.wire.proofs.PutLaws.{put-none}
+use native.Mathlib.Omega.{arith}
+use mathlib.Core.Path.{sym, ap, _∙_}
+use mathlib.Core.List.{[], _∷_}
+use borrow.Author.Needs.{needs}
 use Rattle.reply_lines.proofs.put_pair.Statement.{statement}
 use Rattle.reply_lines.proofs.put_pair.Tie as tie
 
@@ -16,6 +21,12 @@ enum-told c = search needs
 returns : tie.Need-returns
 returns c = simp (← c .before .before .hex-pair .ensures, c .enum-told .given .1) (put-none _ _)
 
+cast-put-byte : tie.Need-cast-put-byte
+cast-put-byte c =
+    let read = c .before .before in
+    let a = read .before .before .before .before in
+    omega (arith, below-at 256 (number-small (a .args .a ∷ a .args .b ∷ [])) (sym (read .before .before .hex-pair .ensures) ∙ ap hexOf (read .byte .given .1)))
+
 put-byte-requires : tie.Need-put-byte-requires
 put-byte-requires c κs = search needs
 
@@ -23,7 +34,10 @@ same-length : tie.Need-same-length
 same-length c = search needs
 
 returns-2 : tie.Need-returns-2
-returns-2 c = simp (← c .before .before .before .before .before .before .before .hex-pair .ensures, c .before .before .before .before .before .byte .given .1) (c .before .before .put-byte .ensures)
+returns-2 c =
+    let put = c .before .before in
+    let read = put .before .before .before in
+    simp (← read .before .before .hex-pair .ensures, read .byte .given .1) (put .put-byte .ensures)
 
 pub put-pair-spec : {M : Type 1} → statement M
 put-pair-spec =
@@ -33,6 +47,7 @@ put-pair-spec =
     enum-known-byte
     enum-told
     returns
+    cast-put-byte
     put-byte-requires
     same-length
     returns-2)

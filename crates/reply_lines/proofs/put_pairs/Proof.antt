@@ -15,7 +15,8 @@ use Rattle.reply_lines.proofs.put_pairs.Tie as tie
 
 abbrev Inv-loop : tie.InvT-loop
 Inv-loop out₀ text at len₀ i₀ out len i =
-    (i ≤ length text) × (length out ≡ length out₀) × Put out len (pairBytes (unspaced (drop i text))) (0 + min (length (pairBytes (unspaced (drop at text)))) (length out₀ - 0)) (sets out₀ 0 (pairBytes (unspaced (drop at text))))
+    (i ≤ length text) × (length out ≡ length out₀) × Put out len (pairBytes (unspaced (drop i text))) (0 + min (length (pairBytes (unspaced (drop at text)))) (length out₀ - 0))
+    (sets out₀ 0 (pairBytes (unspaced (drop at text))))
 
 abbrev μ-loop : tie.MeasureT-loop
 μ-loop out₀ text at len₀ i₀ out len i = length text - i
@@ -30,7 +31,9 @@ same-length : tie.Need-same-length Inv-loop μ-loop
 same-length c = c .before .before .before .loop .inv .1
 
 returns : tie.Need-returns Inv-loop μ-loop
-returns c = let q = pairs-none _ _ (c .before .before .before .loop .inv .2) _ (c .before .next-char .ensures) (c .if1 .taken) in record { next = sym (q .0); bytes = sym (q .1) }
+returns c =
+    let at-loop = c .before .before .before in
+    let q = pairs-none _ _ (at-loop .loop .inv .2) _ (c .before .next-char .ensures) (c .if1 .taken) in record { next = sym (q .0); bytes = sym (q .1) }
 
 add-next-char : tie.Need-add-next-char Inv-loop μ-loop
 add-next-char c = search needs
@@ -39,10 +42,17 @@ next-char-requires-2 : tie.Need-next-char-requires-2 Inv-loop μ-loop
 next-char-requires-2 c κs = search needs
 
 same-length-2 : tie.Need-same-length-2 Inv-loop μ-loop
-same-length-2 c = c .before .before .before .before .before .loop .inv .1
+same-length-2 c =
+    let at-loop = c .before .before .before .before .before in
+    at-loop .loop .inv .1
 
 returns-2 : tie.Need-returns-2 Inv-loop μ-loop
-returns-2 c = let q = pairs-odd _ _ (c .before .before .before .before .before .loop .inv .2) _ (c .before .before .before .next-char .ensures) (c .before .before .if1 .left) _ (c .before .next-char2 .ensures) (c .if2 .taken) in record { next = sym (q .0); bytes = sym (q .1) }
+returns-2 c =
+    let at-if1 = c .before .before in
+    let at-next-char = at-if1 .before in
+    let at-loop = at-next-char .before .before in
+    let q = pairs-odd _ _ (at-loop .loop .inv .2) _ (at-next-char .next-char .ensures) (at-if1 .if1 .left) _ (c .before .next-char2 .ensures)
+    (c .if2 .taken) in record { next = sym (q .0); bytes = sym (q .1) }
 
 shared-slice-read-put-pair : tie.Need-shared-slice-read-put-pair Inv-loop μ-loop
 shared-slice-read-put-pair c = search needs
@@ -57,10 +67,25 @@ add-i : tie.Need-add-i Inv-loop μ-loop
 add-i c = search needs
 
 loop-less : tie.Need-loop-less Inv-loop μ-loop
-loop-less c = omega (arith, c .before .before .before .before .before .before .before .before .before .next-char .ensures .after, c .before .before .before .before .before .before .before .next-char2 .ensures .after, c .before .before .before .before .before .before .if2 .left)
+loop-less c =
+    let at-if2 = c .before .before .before .before .before .before in
+    let at-next-char2 = at-if2 .before in
+    let at-next-char = at-next-char2 .before .before in
+    omega (arith, at-next-char .next-char .ensures .after, at-next-char2 .next-char2 .ensures .after, at-if2 .if2 .left)
 
 loop-again : tie.Need-loop-again Inv-loop μ-loop
-loop-again c = (omega (arith, c .before .before .before .before .before .before .if2 .left), put-length (c .before .before .put-pair .ensures) ∙ c .before .before .before .before .before .before .before .before .before .before .before .loop .inv .1, pairs-step _ _ (c .before .before .before .before .before .before .before .before .before .before .before .loop .inv .2) _ (c .before .before .before .before .before .before .before .before .before .next-char .ensures) (c .before .before .before .before .before .before .before .before .if1 .left) _ (c .before .before .before .before .before .before .before .next-char2 .ensures) (c .before .before .before .before .before .before .if2 .left) (c .before .before .put-pair .ensures))
+loop-again c =
+    let at-put-pair = c .before .before in
+    let at-if2 = at-put-pair .before .before .before .before in
+    let at-next-char2 = at-if2 .before in
+    let at-if1 = at-next-char2 .before in
+    let at-next-char = at-if1 .before in
+    let at-loop = at-next-char .before .before in (
+      omega (arith, at-if2 .if2 .left),
+      put-length (at-put-pair .put-pair .ensures) ∙ at-loop .loop .inv .1,
+      pairs-step _ _ (at-loop .loop .inv .2) _ (at-next-char .next-char .ensures)
+          (at-if1 .if1 .left) _ (at-next-char2 .next-char2 .ensures) (at-if2 .if2 .left) (at-put-pair .put-pair .ensures),
+    )
 
 same-length-3 : tie.Need-same-length-3 Inv-loop μ-loop
 same-length-3 c = c .before .loop .inv .1

@@ -26,7 +26,15 @@ next-char-requires : tie.Need-next-char-requires Inv-loop μ-loop
 next-char-requires c κs = search needs
 
 returns : tie.Need-returns Inv-loop μ-loop
-returns c = record { whole = c .before .before .before .loop .inv .2 ∙ ap (λ l. take (c .before .before .before .loop .len) (c .before .before .before .loop .chars) ++ l) (sym (c .before .next-char .ensures .reads)); five = c .before .before .before .loop .inv .1; short = λ _. unspaced-end _ _ (c .if1 .taken); inside = c .before .next-char .ensures .inside }
+returns c =
+    let at-loop = c .before .before .before in
+    record {
+      whole = at-loop .loop .inv .2 ∙ ap (λ l. take (at-loop .loop .len) (at-loop .loop .chars) ++ l)
+          (sym (c .before .next-char .ensures .reads));
+      five = at-loop .loop .inv .1;
+      short = λ _. unspaced-end _ _ (c .if1 .taken);
+      inside = c .before .next-char .ensures .inside;
+    }
 
 shared-slice-read-chars : tie.Need-shared-slice-read-chars Inv-loop μ-loop
 shared-slice-read-chars c = search needs
@@ -44,7 +52,15 @@ loop-less : tie.Need-loop-less Inv-loop μ-loop
 loop-less c = search needs
 
 loop-again : tie.Need-loop-again Inv-loop μ-loop
-loop-again c = (omega (arith, c .before .if1 .left), length-set (c .before .before .before .before .loop .chars) _ _ ∙ c .before .before .before .before .loop .inv .1, head-step _ (c .before .before .before .before .loop .chars) (c .before .before .before .before .loop .len) _ _ (omega (arith, c .before .before .before .before .loop .inv .1, c .before .before .before .loop-test .taken)) (c .before .before .before .before .loop .inv .2) (c .before .before .next-char .ensures) (c .before .if1 .left))
+loop-again c =
+    let at-next-char = c .before .before in
+    let at-loop-test = at-next-char .before in
+    let at-loop = at-loop-test .before in (
+      omega (arith, c .before .if1 .left),
+      length-set (at-loop .loop .chars) _ _ ∙ at-loop .loop .inv .1,
+      head-step _ (at-loop .loop .chars) (at-loop .loop .len) _ _
+          (omega (arith, at-loop .loop .inv .1, at-loop-test .loop-test .taken)) (at-loop .loop .inv .2) (at-next-char .next-char .ensures) (c .before .if1 .left),
+    )
 
 returns-2 : tie.Need-returns-2 Inv-loop μ-loop
 returns-2 c = record { whole = c .before .loop .inv .2; five = c .before .loop .inv .1; short = λ h. absurd (omega (arith, c .loop-test .left)); inside = c .before .loop .inv .0 }

@@ -13,7 +13,9 @@ has-requires : tie.Need-has-requires
 has-requires c κs = search needs
 
 returns-2 : tie.Need-returns-2
-returns-2 c = ap not (c .has .ensures) ∙ sym (stays-some (c .before .before .before .args .text .now) (c .before .if1 .left))
+returns-2 c =
+    let start = c .before .before .before in
+    ap not (c .has .ensures) ∙ sym (stays-some (start .args .text .now) (c .before .if1 .left))
 
 pub stays-spec : {M : Type 1} → statement M
 stays-spec = tie.close (tie.spec returns has-requires returns-2)

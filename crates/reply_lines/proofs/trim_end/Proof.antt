@@ -33,7 +33,11 @@ slice-aggregate-result : tie.Need-slice-aggregate-result Inv-loop μ-loop
 slice-aggregate-result c = simp length-take (omega arith)
 
 returns : tie.Need-returns Inv-loop μ-loop
-returns c = sym (end-stop _ _ (c .before .before .before .before .loop-test .taken) (c .before .before .before .before .before .loop .inv .0) (sym (c .before .before .is-space .ensures) ∙ not-true _ (c .before .if1 .taken))) ∙ c .before .before .before .before .before .loop .inv .1
+returns c =
+    let at-is-space = c .before .before in
+    let at-loop-test = at-is-space .before .before in
+    let at-loop = at-loop-test .before in
+    sym (end-stop _ _ (at-loop-test .loop-test .taken) (at-loop .loop .inv .0) (sym (at-is-space .is-space .ensures) ∙ not-true _ (c .before .if1 .taken))) ∙ at-loop .loop .inv .1
 
 sub-end : tie.Need-sub-end Inv-loop μ-loop
 sub-end c = search needs
@@ -42,13 +46,18 @@ loop-less : tie.Need-loop-less Inv-loop μ-loop
 loop-less c = search needs
 
 loop-again : tie.Need-loop-again Inv-loop μ-loop
-loop-again c = (search needs, sym (end-next _ _ (c .before .before .before .loop-test .taken) (c .before .before .before .before .loop .inv .0) (sym (c .before .is-space .ensures) ∙ not-false _ (c .if1 .left))) ∙ c .before .before .before .before .loop .inv .1)
+loop-again c =
+    let at-loop-test = c .before .before .before in
+    let at-loop = at-loop-test .before in
+    (search needs, sym (end-next _ _ (at-loop-test .loop-test .taken) (at-loop .loop .inv .0) (sym (c .before .is-space .ensures) ∙ not-false _ (c .if1 .left))) ∙ at-loop .loop .inv .1)
 
 slice-aggregate-result-2 : tie.Need-slice-aggregate-result-2 Inv-loop μ-loop
 slice-aggregate-result-2 c = search needs
 
 returns-2 : tie.Need-returns-2 Inv-loop μ-loop
-returns-2 c = let z : c .before .before .loop .end ≡ 0 = omega arith in rw z at (c .before .before .loop .inv .1)
+returns-2 c =
+    let at-loop = c .before .before in
+    let z : at-loop .loop .end ≡ 0 = omega arith in rw z at (at-loop .loop .inv .1)
 
 pub trim-end-spec : {M : Type 1} → statement M
 trim-end-spec =

@@ -35,7 +35,13 @@ part-result-end : tie.Need-part-result-end Inv-loop μ-loop
 part-result-end c = search needs
 
 returns : tie.Need-returns Inv-loop μ-loop
-returns c = part-all (c .before .before .before .before .before .before .before .args .s .now) (c .before .before .before .before .before .loop .i) ∙ sym (start-stop _ _ (c .before .before .before .before .loop-test .taken) (sym (c .before .before .is-space .ensures) ∙ not-true _ (c .before .if1 .taken))) ∙ c .before .before .before .before .before .loop .inv .1
+returns c =
+    let at-is-space = c .before .before in
+    let at-loop-test = at-is-space .before .before in
+    let at-loop = at-loop-test .before in
+    let start = at-loop .before .before in
+    part-all (start .args .s .now) (at-loop .loop .i) ∙ sym (start-stop _ _ (at-loop-test .loop-test .taken) (sym (at-is-space .is-space .ensures) ∙ not-true _ (c .before .if1 .taken)))
+    ∙ at-loop .loop .inv .1
 
 add-i : tie.Need-add-i Inv-loop μ-loop
 add-i c = search needs
@@ -44,7 +50,10 @@ loop-less : tie.Need-loop-less Inv-loop μ-loop
 loop-less c = search needs
 
 loop-again : tie.Need-loop-again Inv-loop μ-loop
-loop-again c = (search needs, sym (start-next _ _ (c .before .before .before .loop-test .taken) (sym (c .before .is-space .ensures) ∙ not-false _ (c .if1 .left))) ∙ c .before .before .before .before .loop .inv .1)
+loop-again c =
+    let at-loop-test = c .before .before .before in
+    let at-loop = at-loop-test .before in
+    (search needs, sym (start-next _ _ (at-loop-test .loop-test .taken) (sym (c .before .is-space .ensures) ∙ not-false _ (c .if1 .left))) ∙ at-loop .loop .inv .1)
 
 slice-aggregate-result : tie.Need-slice-aggregate-result Inv-loop μ-loop
 slice-aggregate-result c = search needs

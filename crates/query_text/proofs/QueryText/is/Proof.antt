@@ -15,22 +15,38 @@ size-requires-2 : tie.Need-size-requires-2
 size-requires-2 c κs = search needs
 
 array-share-prefix-bytes : tie.Need-array-share-prefix-bytes
-array-share-prefix-bytes c = let h : length (c .before .before .before .before .args .self .bytes) ≡ 18 = search needs in omega (arith, c .before .before .size .ensures)
+array-share-prefix-bytes c =
+    let at-size = c .before .before in
+    let start = at-size .before .before in
+    let h : length (start .args .self .bytes) ≡ 18 = search needs in omega (arith, at-size .size .ensures)
 
 slice-aggregate-same : tie.Need-slice-aggregate-same
-slice-aggregate-same c = let h : length (c .before .before .before .before .before .args .self .bytes) ≡ 18 = search needs in simp length-take (omega (arith, c .before .before .before .size .ensures))
+slice-aggregate-same c =
+    let at-size = c .before .before .before in
+    let start = at-size .before .before in
+    let h : length (start .args .self .bytes) ≡ 18 = search needs in simp length-take (omega (arith, at-size .size .ensures))
 
 array-share-prefix-others : tie.Need-array-share-prefix-others
-array-share-prefix-others c = let h : length (c .before .before .before .before .before .args .other .bytes) ≡ 18 = search needs in omega (arith, c .before .size2 .ensures)
+array-share-prefix-others c =
+    let start = c .before .before .before .before .before in
+    let h : length (start .args .other .bytes) ≡ 18 = search needs in omega (arith, c .before .size2 .ensures)
 
 slice-aggregate-same-2 : tie.Need-slice-aggregate-same-2
-slice-aggregate-same-2 c = let h : length (c .before .before .before .before .before .before .args .other .bytes) ≡ 18 = search needs in simp length-take (omega (arith, c .before .before .size2 .ensures))
+slice-aggregate-same-2 c =
+    let at-size2 = c .before .before in
+    let start = at-size2 .before .before .before .before in
+    let h : length (start .args .other .bytes) ≡ 18 = search needs in simp length-take (omega (arith, at-size2 .size2 .ensures))
 
 same-requires : tie.Need-same-requires
 same-requires c κs = search needs
 
 returns : tie.Need-returns
-returns c = let h : length (c .before .before .before .before .before .before .before .args .self .bytes) ≡ 18 = search needs in let k : length (c .before .before .before .before .before .before .before .args .other .bytes) ≡ 18 = search needs in let a = text-within (c .before .before .before .before .before .before .before .args .self) h (c .before .before .before .before .before .size .ensures) in let b = text-within (c .before .before .before .before .before .before .before .args .other) k (c .before .before .before .size2 .ensures) in c .same .ensures ∙ (λ i. same (a i) (b i))
+returns c =
+    let at-size2 = c .before .before .before in
+    let at-size = at-size2 .before .before in
+    let start = at-size .before .before in
+    let h : length (start .args .self .bytes) ≡ 18 = search needs in let k : length (start .args .other .bytes) ≡ 18 = search needs in let a = text-within (start .args .self) h
+    (at-size .size .ensures) in let b = text-within (start .args .other) k (at-size2 .size2 .ensures) in c .same .ensures ∙ (λ i. same (a i) (b i))
 
 pub is-spec : {M : Type 1} → statement M
 is-spec =

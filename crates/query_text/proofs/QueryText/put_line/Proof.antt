@@ -12,10 +12,15 @@ size-requires : tie.Need-size-requires
 size-requires c κs = search needs
 
 array-share-prefix-bytes : tie.Need-array-share-prefix-bytes
-array-share-prefix-bytes c = let h : length (c .before .before .before .before .args .self .bytes) ≡ 18 = search needs in omega (arith, c .before .size .ensures)
+array-share-prefix-bytes c =
+    let start = c .before .before .before .before in
+    let h : length (start .args .self .bytes) ≡ 18 = search needs in omega (arith, c .before .size .ensures)
 
 slice-aggregate-put : tie.Need-slice-aggregate-put
-slice-aggregate-put c = let h : length (c .before .before .before .before .before .args .self .bytes) ≡ 18 = search needs in simp length-take (omega (arith, c .before .before .size .ensures))
+slice-aggregate-put c =
+    let at-size = c .before .before in
+    let start = at-size .before .before .before in
+    let h : length (start .args .self .bytes) ≡ 18 = search needs in simp length-take (omega (arith, at-size .size .ensures))
 
 put-requires : tie.Need-put-requires
 put-requires c κs = search needs
@@ -27,7 +32,13 @@ same-length : tie.Need-same-length
 same-length c = search needs
 
 returns : tie.Need-returns
-returns c = let h : length (c .before .before .before .before .before .before .before .before .before .before .before .before .args .self .bytes) ≡ 18 = search needs in rw (← text-within (c .before .before .before .before .before .before .before .before .before .before .before .before .args .self) h (c .before .before .before .before .before .before .before .before .before .size .ensures)) (put-then (c .before .before .before .before .before .before .put .ensures) (c .before .before .put-byte .ensures))
+returns c =
+    let at-put-byte = c .before .before in
+    let at-put = at-put-byte .before .before .before .before in
+    let at-size = at-put .before .before .before in
+    let start = at-size .before .before .before in
+    let h : length (start .args .self .bytes) ≡ 18 = search needs in rw (← text-within (start .args .self) h (at-size .size .ensures))
+    (put-then (at-put .put .ensures) (at-put-byte .put-byte .ensures))
 
 pub put-line-spec : {M : Type 1} → statement M
 put-line-spec =

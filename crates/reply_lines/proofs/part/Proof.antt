@@ -1,16 +1,18 @@
--- `line_reader::part` meets its contract.
+-- `reply_lines::part` meets its contract.
 use mathlib.Core.Path.{sym}
 use Prim.Native.Nat.{_-_}
 use borrow.Author.Needs.{needs}
-use Rattle.line_reader.proofs.PartLaws.{part-past, part-none, part-rest}
-use Rattle.line_reader.proofs.part.Statement.{statement}
-use Rattle.line_reader.proofs.part.Tie as tie
+use Rattle.reply_lines.proofs.PartLaws.{part-past, part-none, part-rest}
+use Rattle.reply_lines.proofs.part.Statement.{statement}
+use Rattle.reply_lines.proofs.part.Tie as tie
 
 slice-aggregate-result : tie.Need-slice-aggregate-result
 slice-aggregate-result c = search needs
 
 returns : tie.Need-returns
-returns c = sym (part-past (c .before .before .args .reply .now) (c .before .before .args .start) (c .before .before .args .end - c .before .before .args .start) (c .before .if1 .taken))
+returns c =
+    let start = c .before .before in
+    sym (part-past (start .args .reply .now) (start .args .start) (start .args .end - start .args .start) (c .before .if1 .taken))
 
 slice-aggregate-result-2 : tie.Need-slice-aggregate-result-2
 slice-aggregate-result-2 c = search needs

@@ -1,11 +1,10 @@
--- `line_reader::step_text` meets its contract.
+-- `reply_lines::step_text` meets its contract.
 use mathlib.Core.Path.{sym, ap, _∙_}
-use Rattle.reply_lines.specs.Answers.{lineStep}
-use Rattle.reply_lines.specs.declared.LineStep.{LineStep}
-use Rattle.line_reader.specs.Reader.{stepText}
+use Rattle.reply_lines.specs.Reader.{textStep, stepText}
+use Rattle.reply_lines.specs.declared.TextStep.{TextStep}
 use borrow.Author.Needs.{needs}
-use Rattle.line_reader.proofs.step_text.Statement.{statement}
-use Rattle.line_reader.proofs.step_text.Tie as tie
+use Rattle.reply_lines.proofs.step_text.Statement.{statement}
+use Rattle.reply_lines.proofs.step_text.Tie as tie
 
 enum-known-step : tie.Need-enum-known-step
 enum-known-step c = search needs
@@ -20,7 +19,10 @@ slice-aggregate-result : tie.Need-slice-aggregate-result
 slice-aggregate-result c = search needs
 
 returns : tie.Need-returns
-returns c = c .part .ensures ∙ ap (λ (s : LineStep). stepText (c .before .before .before .before .before .args .reply .now) (lineStep s)) (sym (c .before .before .step .given .1))
+returns c =
+    let at-step = c .before .before in
+    let start = at-step .before .before .before in
+    c .part .ensures ∙ ap (λ (s : TextStep). stepText (start .args .reply .now) (textStep s)) (sym (at-step .step .given .1))
 
 returns-2 : tie.Need-returns-2
 returns-2 c = search needs

@@ -1,4 +1,4 @@
--- `line_reader::LineReader::new` meets its contract: a walk of its MIR, by hand.
+-- `reply_lines::LineReader::new` meets its contract: a walk of its MIR, by hand.
 -- A reader is made of the slice passed and 0, in the result's local. A `&[u8]` is Copy, so what it owns is had twice: once for reply at exit, and once inside the result, beside the facts of at.
 use mathlib.Core.Path.{refl}
 use Prim.Native.Nat.{ℕ}
@@ -34,13 +34,13 @@ use denote.Triple.Spec.{Meets, tripleOf}
 use denote.Triple.Table.{entered}
 use denote.Triple.Walked.{says, Stays, stay-none-slice, walkOf, goes-none-slice, Walks, ends-at, walked, walk-meets}
 use denote.Exit.{yes}
-use Rattle.line_reader.specs.declared.LineReader.{LineReader}
-use Rattle.line_reader.proofs.LineReader as T
-use Rattle.line_reader.proofs.LineReader.Laws as T′
-use Rattle.line_reader.proofs.LineReader.new.Key.{name as #line-reader·LineReader·new}
-use Rattle.line_reader.proofs.LineReader.new as new
-use Rattle.line_reader.proofs.LineReader.new.Statement as stated
-use Rattle.line_reader.proofs.LineReader.new.Code as code
+use Rattle.reply_lines.specs.declared.LineReader.{LineReader}
+use Rattle.reply_lines.proofs.LineReader as T
+use Rattle.reply_lines.proofs.LineReader.Laws as T′
+use Rattle.reply_lines.proofs.LineReader.new.Key.{name as #reply-lines·LineReader·new}
+use Rattle.reply_lines.proofs.LineReader.new as new
+use Rattle.reply_lines.proofs.LineReader.new.Statement as stated
+use Rattle.reply_lines.proofs.LineReader.new.Code as code
 
 abbrev stayed : Stays (new.ended .signature .params) (new.ended .kept)
 stayed = (stay-none-slice (0 ∷ []) tt (plain (λ _. u8)) yes, tt)
@@ -78,7 +78,8 @@ module _ {M : Type 1} (𝓤 : URA M) (H : Heap 𝓤) (A : Atoms 𝓤) (W : Given
     walk p =
         qed W (raw (onEntry 𝓤 H A new.signature (κ, tt) (q, tt) (s, tt) at) ∷ []) ∵ enter ! C Λ code.function (v ∷ []) _ $
         alloc1 ! (λ l₀. alloc1 ! (λ l₁. alloc0 ! $ params1 ! $ pass1 ! (init ! 0 refl (shr-slice-lawful 𝓤 H A W (named 0) κ u8 .typed s (v ∷ []) p .0)) $ pass0 ! $
-        assigns ! (agg ! (and-then ! (load ! (from ! (stop !)) (look ! 0 refl)) (and-then ! (lit ! tt) (no-more !)))) (from ! (stop !)) (init ! 2 refl (tt, (shr-slice-lawful 𝓤 H A W (named 0) κ u8 .typed s (v ∷ []) p .0 .1, (record { fits = lit< tt }, tt)))) $
+        assigns ! (agg ! (and-then ! (load ! (from ! (stop !)) (look ! 0 refl)) (and-then ! (lit ! tt) (no-more !)))) (from ! (stop !))
+        (init ! 2 refl (tt, (shr-slice-lawful 𝓤 H A W (named 0) κ u8 .typed s (v ∷ []) p .0 .1, (record { fits = lit< tt }, tt)))) $
         returns ! (look ! 2 refl) $ forget ! 0 refl $ forget ! 2 refl $ move ! (2 ∷ 3 ∷ []) $ free1 ! $ free1 ! $ free0 ! $ by ! exits))
 
 module _ {M : Type 1} (𝓤 : URA M) (H : Heap 𝓤) (A : Atoms 𝓤) (W : Given 𝓤 H A) (mem : Memory → SProp 𝓤) (run : Routine → Fun 𝓤) where
@@ -88,11 +89,12 @@ module _ {M : Type 1} (𝓤 : URA M) (H : Heap 𝓤) (A : Atoms 𝓤) (W : Given
 
 new-meets : {M : Type 1} (𝓤 : URA M) (H : Heap 𝓤) (A : Atoms 𝓤) → Given 𝓤 H A → (mem : Memory → SProp 𝓤) (run : Routine → Fun 𝓤) (𝓣 : Tables 𝓤 H)
     → Meets 𝓤 H A new.signature (WpFn 𝓤 H (𝓣 .C) (𝓣 .Λ) code.function) (new.spec 𝓤 H A mem run)
-new-meets 𝓤 H A W mem run 𝓣 = walk-meets 𝓤 H A new.ended stayed W (goes-none-slice 𝓤 H A W 1 (0 ∷ []) tt (plain (λ _. u8)) yes, tt) (new.clauses 𝓤 H A mem run) (WpFn 𝓤 H (𝓣 .C) (𝓣 .Λ) code.function) (WpFn-mono 𝓤 H (W .laws) 𝓣 code.function) (new-walks 𝓤 H A W mem run (𝓣 .C) (𝓣 .Λ))
+new-meets 𝓤 H A W mem run 𝓣 = walk-meets 𝓤 H A new.ended stayed W (goes-none-slice 𝓤 H A W 1 (0 ∷ []) tt (plain (λ _. u8)) yes, tt) (new.clauses 𝓤 H A mem run)
+    (WpFn 𝓤 H (𝓣 .C) (𝓣 .Λ) code.function) (WpFn-mono 𝓤 H (W .laws) 𝓣 code.function) (new-walks 𝓤 H A W mem run (𝓣 .C) (𝓣 .Λ))
 
 pub new-spec : {M : Type 1} → stated.statement M
 unfolding code.routine tablesOf
 new-spec 𝓤 H 𝓜 𝓖 𝓡 =
     entered 𝓤 H (tripleOf 𝓤 H (𝓖 .A) new.signature (new.spec 𝓤 H (𝓖 .A) (𝓜 .mem) (𝓡 .run)))
-    (tables 𝓤 H 𝓜 𝓡 code.env .C) (tables 𝓤 H 𝓜 𝓡 code.env .Λ) #line-reader·LineReader·new code.function (code.unfolded 𝓤 H 𝓜 𝓡)
+    (tables 𝓤 H 𝓜 𝓡 code.env .C) (tables 𝓤 H 𝓜 𝓡 code.env .Λ) #reply-lines·LineReader·new code.function (code.unfolded 𝓤 H 𝓜 𝓡)
     (new-meets 𝓤 H (𝓖 .A) (givenOf 𝓤 H 𝓜 𝓖) (𝓜 .mem) (𝓡 .run) (tablesOf 𝓤 H 𝓜 (tables 𝓤 H 𝓜 𝓡 code.env)))

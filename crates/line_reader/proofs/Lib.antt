@@ -1,2 +1,0 @@
-mod PartLaws
-pub mod WalkLaws
