@@ -11,7 +11,8 @@ fn print_case(script: &[u8], record: &mut [u8], size: usize) {
         return;
     }
     let mut out = [0u8; 196620];
-    let HireAnswer::Written(end) = hire_text::hire_text(script, &mut record[..size], &mut out) else {
+    let HireAnswer::Written(end) = hire_text::hire_text(script, &mut record[..size], &mut out)
+    else {
         return;
     };
     io::write_all(STDOUT_FILENO, &out[..end]);

@@ -95,7 +95,7 @@ returns-3 c =
     let a = lent k .args in
     let r = ran k .run in (
       all-written (a .script .now) (a .buffer .now) _ (r .result) (r .ensures) (k .put-stop .ensures) refl
-      (room .before .if1 .left) (room .if2 .left) (parts .put-parts .ensures) (put .put .ensures),
+          (room .before .if1 .left) (room .if2 .left) (parts .put-parts .ensures) (put .put .ensures),
       buffer-left (a .script .now) (a .buffer .now) _ (r .result) (r .ensures),
     )
 
