@@ -4,6 +4,7 @@ use mathlib.Core.List.{[], _∷_}
 use native.Mathlib.Omega.{arith}
 use lib.ListN.{replicate}
 use Rattle.wire.specs.Answer.{unless}
+use Rattle.wire.specs.Put.{putWhole}
 use Rattle.group.specs.Group.{groupBytes}
 use Rattle.group.specs.Format.{Each}
 use Rattle.group.specs.Answers.{groupAt}
@@ -20,7 +21,7 @@ use Rattle.cards.specs.Example.{AsExpected}
 use Rattle.cards.specs.Numbers.{numbers, twoParts}
 
 pub numbers-hold : AsExpected numbers
-unfolding groupBytes groupAt lineList lineAt linesIn putLine valueFormat readRecord valueAt j1979 mode01Lengths script unless queryFormat queryAt queriesIn
+unfolding groupBytes groupAt lineList lineAt linesIn putLine putWhole valueFormat readRecord valueAt j1979 mode01Lengths script unless queryFormat queryAt queriesIn
 numbers-hold = (refl, (refl, (refl, (refl, (refl, (refl, (refl, (refl, (refl, (refl, (refl, (refl, (refl, (refl, (refl, (refl, (refl, (refl, (refl, (refl, (refl, (refl, (refl, (refl, (refl, (refl, (refl, (refl, (refl, (refl, (refl, (refl, (refl, (refl, (refl, (refl, (refl, (refl, (refl, (refl, (refl, (refl, tt))))))))))))))))))))))))))))))))))))))))))
 
 -- a record equals itself, and bytes that are no record equal nothing

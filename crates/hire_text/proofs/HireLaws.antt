@@ -1,20 +1,23 @@
--- What a run's contract gives its text, and how long the text is.
-use mathlib.Core.Path.{_≡_, ap, _∙_}
+-- What a run's contract gives its text: how long it is, and each way out of `hire_text`.
+use mathlib.Core.Path.{_≡_, sym, ap, _∙_}
 use mathlib.Core.Bool.{Bool, true}
-use mathlib.Core.List.{List, [], append-nil}
-use Prim.Native.Nat.{ℕ, _+_, _*_, _≤_}
+use mathlib.Core.List.{List, []}
+use Prim.Native.Nat.{ℕ, _+_, _-_, _*_, _/_, _≤_, _<_}
 use native.Mathlib.Omega.{arith}
-use lib.ListN.{length, take}
+use lib.ListN.{length, take, length-append}
 use lib.Seq.{sets, length-sets, take-all}
-use Rattle.wire.specs.Put.{Put}
+use Rattle.wire.specs.declared.Refusal.the-variants.{SmallBuffer}
+use Rattle.wire.specs.Put.{Put, putWhole}
+use Rattle.wire.specs.Put.{Written as Filled}
 use Rattle.wire.specs.Text.{joined}
-use Rattle.wire.proofs.PutLaws.{put-then, put-front}
+use Rattle.wire.proofs.PutLaws.{put-then, put-front, put-whole, whole-small, whole-stored, whole-told, whole-length}
 use Rattle.bench.specs.declared.BenchRun.{BenchRun}
-use Rattle.bench.specs.declared.RunAnswer.the-variants as answer
 use Rattle.bench.specs.Run.{runSays, runAnswer, Recorded, recorded, lent}
-use Rattle.hire_text.proofs.LineLaws.{run-length}
+use Rattle.hire_text.proofs.LineLaws.{lines-length, stop-length}
 use Rattle.hire_text.proofs.StandLaws.{run-fits, run-parts}
-use Rattle.hire_text.specs.Hire.{hexLines, refusedLine, hireRun, hireText}
+use Rattle.hire_text.specs.Hire.{hexLines, stopLine, hireRun, hireText, hireWritten}
+use Rattle.hire_text.specs.declared.HireAnswer.{HireAnswer}
+use Rattle.hire_text.specs.declared.HireAnswer.the-variants.{Written, Refused}
 use Rattle.hire_text.specs.Steps.{AreParts}
 
 -- what was written stands inside the buffer, in any run
@@ -42,22 +45,48 @@ module _ (s buffer left : List ℕ) (r : BenchRun) (e : recorded r left ≡ lent
   says : runAnswer (r .answer) ≡ hireRun (length buffer) s .answer
   says = ap (λ (v : Recorded). v .answer) e
 
-  -- the lines of whatever parts the record's bytes are
-  module _ {out out₁ : List ℕ} {n : ℕ} (lines : (ps : List (List ℕ)) → AreParts ps → take (r .written) left ≡ joined ps → Put out 0 (hexLines ps) n out₁) where
-    lines-put : Put out 0 (hexLines parts) n out₁
-    lines-put = lines parts (run-parts true [] (length buffer) s) parts-stand
+  -- where a number ended the run, its line
+  abbrev stop : List ℕ
+  stop = stopLine (runAnswer (r .answer))
 
-    -- the run has no number
-    pub text-complete : r .answer ≡ answer.Complete → Put out 0 (hireText (length buffer) s) n out₁
+  text-size : length (hireText (length buffer) s) ≡ 3 * r .written + length stop
+  unfolding hireText
+  text-size =
+      let w : r .written ≡ length (joined parts) = ap (λ (v : Recorded). v .written) e in
+      let end = hireRun (length buffer) s .answer in
+      omega (arith, length-append (hexLines parts) (stopLine end), lines-length parts, ap (λ a. length (stopLine a)) says)
+
+  -- it stands at the front of a line of 12 bytes
+  module _ {line₀ line : List ℕ} {size : ℕ} (p : Put line₀ 0 stop size line) (twelve : length line₀ ≡ 12) where
+    whole-line : size ≡ length stop
+    whole-line = let few = stop-length (runAnswer (r .answer)) in omega (arith, put-whole p (omega arith))
+
+    stop-line : take size line ≡ stop
+    stop-line = put-front p ∙ take-all (length line₀) stop (omega (arith, stop-length (runAnswer (r .answer))))
+
+    -- there is no room for it, or for the lines before it
+    pub no-room : (out : List ℕ) → length out < size → hireWritten (Refused SmallBuffer) out ≡ putWhole out 0 (hireText (length buffer) s)
+    no-room out h = whole-small out 0 (hireText (length buffer) s) (omega (arith, text-size, whole-line))
+
+    pub too-few : (out : List ℕ) → size ≤ length out → (length out - size) / 3 < r .written → hireWritten (Refused SmallBuffer) out ≡ putWhole out 0 (hireText (length buffer) s)
+    too-few out h k = whole-small out 0 (hireText (length buffer) s) (omega (arith, text-size, whole-line))
+
+    -- the lines of whatever parts the record's bytes are, and this line after them
+    abbrev Lines : List ℕ → ℕ → List ℕ → Type 0
+    Lines out n out₁ = (ps : List (List ℕ)) → AreParts ps → take (r .written) left ≡ joined ps → Put out 0 (hexLines ps) n out₁
+
+    text-put : {out out₁ out₂ : List ℕ} {n m : ℕ} → Lines out n out₁ → Put out₁ n (take size line) m out₂ → Put out 0 (hireText (length buffer) s) m out₂
     unfolding hireText
-    text-complete c = rw (← says, c, append-nil (hexLines parts)) lines-put
+    text-put lines q = rw (← says) (put-then (lines parts (run-parts true [] (length buffer) s) parts-stand) (rw stop-line at q))
 
-    -- or one
-    pub text-refused : {out₂ : List ℕ} {m k : ℕ} → r .answer ≡ answer.Refused k → Put out₁ n (refusedLine k) m out₂ → Put out 0 (hireText (length buffer) s) m out₂
-    unfolding hireText
-    text-refused c q = rw (← says, c) (put-then lines-put q)
+    pub all-written : {out out₁ out₂ : List ℕ} {n m : ℕ} → size ≤ length out → r .written ≤ (length out - size) / 3 → Lines out n out₁ → Put out₁ n (take size line) m out₂ →
+        hireWritten (Written m) out₂ ≡ putWhole out 0 (hireText (length buffer) s)
+    all-written h k lines q = whole-stored (omega arith) (omega (arith, text-size, whole-line)) (text-put lines q)
 
--- three characters for each byte of a record buffer, and 12 for a number, are enough
-pub text-length : (room : ℕ) (s : List ℕ) → length (hireText room s) ≤ 3 * room + 12
-unfolding hireText
-text-length room s = omega (arith, run-length (hireRun room s), run-fits true [] room s)
+-- what a text that was written tells the caller: it is inside the buffer, whose length is as it was
+pub text-inside : (out left text : List ℕ) {r : HireAnswer} {m : ℕ} → hireWritten r left ≡ putWhole out 0 text → r ≡ Written m → (m ≤ length left) × (length left ≡ length out)
+text-inside out left text {r} {m} e d =
+    let q : hireWritten (Written m) left ≡ putWhole out 0 text = rw d at e in
+    let told = whole-told out 0 text (sym (ap (λ (w : Filled). w .answer) q)) in
+    let same : length left ≡ length out = ap (λ (w : Filled). length (w .out)) q ∙ whole-length out 0 text in
+    (omega (arith, told .0, told .1), same)

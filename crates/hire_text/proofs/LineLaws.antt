@@ -15,8 +15,7 @@ use Rattle.hex.specs.Digits.{hexByte}
 use Rattle.hex.proofs.DigitLaws.{digit-between, digits-all}
 use Rattle.query.specs.Query.{decimal}
 use Rattle.query.proofs.QueryLaws.{query-length, query-short}
-use Rattle.bench.specs.Run.{Run}
-use Rattle.hire_text.specs.Hire.{separator, hexLine, hexLines, refusedLine, stopLine, runText}
+use Rattle.hire_text.specs.Hire.{separator, hexLine, hexLines, refusedLine, stopLine}
 
 -- what stands before the byte at a position, and after the last
 pub separator-more : (s : List ℕ) (i : ℕ) → i < length s → separator (drop i s) ≡ 32
@@ -49,7 +48,7 @@ line-length : (s : List ℕ) → length (hexLine s) ≡ 3 * length s
 line-length [] = refl
 line-length (b ∷ s) = omega (arith, line-length s)
 
-lines-length : (ps : List (List ℕ)) → length (hexLines ps) ≡ 3 * length (joined ps)
+pub lines-length : (ps : List (List ℕ)) → length (hexLines ps) ≡ 3 * length (joined ps)
 lines-length [] = refl
 lines-length (p ∷ ps) = omega (arith, length-append (hexLine p) (hexLines ps), length-append p (joined ps), line-length p, lines-length ps)
 
@@ -60,9 +59,6 @@ refused-length n =
     let six : List ℕ = 0 ∷ 0 ∷ 0 ∷ 0 ∷ 0 ∷ 0 ∷ [] in
     omega (arith, query-length six (suc n), query-short six (suc n) (omega arith), length-append (decimal n) (10 ∷ []))
 
-stop-length : (a : Answer (Unit {0})) → length (stopLine a) ≤ 12
+pub stop-length : (a : Answer (Unit {0})) → length (stopLine a) ≤ 12
 stop-length (result u) = omega arith
 stop-length (refused n) = refused-length n
-
-pub run-length : (r : Run) → length (runText r) ≤ 3 * length (joined (r .parts)) + 12
-run-length r = omega (arith, lines-length (r .parts), stop-length (r .answer), length-append (hexLines (r .parts)) (stopLine (r .answer)))

@@ -4,11 +4,14 @@
 use mathlib.Core.Bool.{true}
 use mathlib.Core.List.{List, [], _∷_, _++_}
 use Prim.Native.Nat.{ℕ}
-use Rattle.wire.specs.Answer.{Answer, result, refused}
+use Rattle.wire.specs.Answer.{Answer, result, refused, number}
+use Rattle.wire.specs.Put.{Written}
 use Rattle.wire.specs.Text.{ascii}
 use Rattle.hex.specs.Digits.{hexByte}
 use Rattle.query.specs.Query.{decimal}
 use Rattle.bench.specs.Run.{Run, runSays}
+use Rattle.hire_text.specs.declared.HireAnswer.{HireAnswer}
+use Rattle.hire_text.specs.declared.HireAnswer.the-variants as answer
 
 -- "capital hex bytes with single spaces and LF": a space stands after each byte but the last, which LF follows
 abbrev pub separator : List ℕ → ℕ
@@ -47,3 +50,7 @@ hireText room s = runText (hireRun room s)
 -- what `hire` prints of a script: "a record buffer of 65,536 bytes"
 abbrev pub hirePrints : List ℕ → List ℕ
 hirePrints s = hireText 65536 s
+
+abbrev pub hireWritten : HireAnswer → List ℕ → Written
+hireWritten (answer.Written n) out = record { answer = result n; out = out }
+hireWritten (answer.Refused r) out = record { answer = refused (number r); out = out }

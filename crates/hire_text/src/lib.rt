@@ -3,15 +3,23 @@ use bench::RunAnswer;
 use group::GroupRead;
 use value::ValueCursor;
 use value::ValueStep;
+use wire::Refusal;
 ghost use mathlib.Core.Path.{_≡_};
 ghost use mathlib.Core.List.{List};
 ghost use Prim.Native.Nat.{ℕ};
 ghost use lib.ListN.{length, drop};
 ghost use lib.Seq.{sets};
-ghost use Rattle.wire.specs.Put.{Put};
+ghost use Rattle.wire.specs.Put.{Put, putWhole};
+ghost use Rattle.bench.specs.Run.{runAnswer};
 ghost use Rattle.wire.specs.Text.{joined};
-ghost use Rattle.hire_text.specs.Hire.{separator, hexLine, hexLines, refusedLine, hireRun, hireText};
+ghost use Rattle.hire_text.specs.Hire.{separator, hexLine, hexLines, refusedLine, stopLine, hireRun, hireText, hireWritten};
 ghost use Rattle.hire_text.specs.Steps.{AreParts, PartEnd};
+
+pub enum HireAnswer {
+    // So many bytes of the text.
+    Written(usize),
+    Refused(Refusal),
+}
 
 // What stands in a line before the byte at i, or after the last.
 fn separator(bytes: &[u8], i: usize) -> u8
@@ -88,16 +96,33 @@ fn put_refused(out: &mut [u8], at: usize, number: u8) -> usize
     wire::put_byte(out, at, b'\n')
 }
 
-// Runs a script with repeat on and no piece lengths, and writes its record's parts to out, a line each, and the number that ended the run.
-pub fn hire_text(script: &[u8], buffer: &mut [u8], out: &mut [u8]) -> usize
-    ensures { λ r. ⌜ Put (now (out .entry)) 0 (hireText (length (now (buffer .entry))) (now (script .entry))) r (now (out .exit)) × (now (buffer .exit) ≡ sets (now (buffer .entry)) 0 (joined (hireRun (length (now (buffer .entry))) (now (script .entry)) .parts))) ⌝ }
+// The line that tells the number that ended a run, at the front of out; nothing where none did.
+fn put_stop(out: &mut [u8], answer: RunAnswer) -> usize
+    ensures { λ r. ⌜ Put (now (out .entry)) 0 (stopLine (runAnswer answer)) r (now (out .exit)) ⌝ }
+{
+    match answer {
+        RunAnswer::Complete => 0,
+        RunAnswer::Refused(number) => put_refused(out, 0, number),
+    }
+}
+
+// Runs a script with repeat on and no piece lengths, and writes its record's parts to out, a line each, and the number that ended the run: 6 where out is shorter.
+// The last line is written first elsewhere, and a part's line has three characters for each byte, so the size is known before anything is written to out.
+pub fn hire_text(script: &[u8], buffer: &mut [u8], out: &mut [u8]) -> HireAnswer
+    ensures { λ r. ⌜ hireWritten r (now (out .exit)) ≡ putWhole (now (out .entry)) 0 (hireText (length (now (buffer .entry))) (now (script .entry))) ⌝ }
+    ensures { λ r. ⌜ now (buffer .exit) ≡ sets (now (buffer .entry)) 0 (joined (hireRun (length (now (buffer .entry))) (now (script .entry)) .parts)) ⌝ }
 {
     let run = bench::run(script, b"", true, buffer);
     let end = run.written;
     let answer = run.answer;
-    let last = put_parts(out, 0, &buffer[..end]);
-    match answer {
-        RunAnswer::Complete => last,
-        RunAnswer::Refused(number) => put_refused(out, last, number),
+    let mut line = [0u8; 12];
+    let size = put_stop(&mut line, answer);
+    if out.len() < size {
+        return HireAnswer::Refused(Refusal::SmallBuffer);
     }
+    if (out.len() - size) / 3 < end {
+        return HireAnswer::Refused(Refusal::SmallBuffer);
+    }
+    let last = put_parts(out, 0, &buffer[..end]);
+    HireAnswer::Written(wire::put(out, last, &line[..size]))
 }

@@ -1,5 +1,5 @@
 -- Laws of a line that is written: how long it is, and each way out of `put_line`.
-use mathlib.Core.Path.{_≡_}
+use mathlib.Core.Path.{_≡_, _∙_}
 use mathlib.Core.List.{List}
 use Prim.Native.Nat.{ℕ, _+_, _-_, _≤_, _<_}
 use native.Mathlib.Omega.{arith}
@@ -7,8 +7,8 @@ use lib.ListN.{length, length-append}
 use borrow.Author.Tests.{lt-ltb, le-ltb}
 use Rattle.wire.specs.Answer.{unless}
 use Rattle.wire.specs.declared.Refusal.the-variants.{Malformed, SmallBuffer}
-use Rattle.wire.specs.Put.{Put}
-use Rattle.wire.proofs.PutLaws.{put-whole}
+use Rattle.wire.specs.Put.{Put, putWhole}
+use Rattle.wire.proofs.PutLaws.{whole-small, whole-stored}
 use Rattle.group.specs.Group.{groupBytes}
 use Rattle.line_list.specs.Lines.{Line, lineFormat}
 use Rattle.line_list.specs.declared.LinePut.the-variants.{To, Refused}
@@ -28,13 +28,13 @@ module _ (out : List ℕ) (at : ℕ) (l : Line) where
     put-long h = rw (le-ltb 4096 (l .ecu) known, lt-ltb 255 (length (l .bytes)) h)
 
     module _ (short : length (l .bytes) ≤ 255) where
-      pub put-small : length out - at < length (lineFormat .write l) → lineWritten (Refused SmallBuffer) out ≡ putLine out at l
+      whole : putWhole out at (lineFormat .write l) ≡ putLine out at l
       unfolding putLine unless
-      put-small h = rw (le-ltb 4096 (l .ecu) known, le-ltb 255 (length (l .bytes)) short, lt-ltb (length out - at) (length (lineFormat .write l)) h)
+      whole = rw (le-ltb 4096 (l .ecu) known, le-ltb 255 (length (l .bytes)) short)
+
+      pub put-small : length out - at < length (lineFormat .write l) → lineWritten (Refused SmallBuffer) out ≡ putLine out at l
+      put-small h = whole-small out at (lineFormat .write l) h ∙ whole
 
       pub put-fits : {r : ℕ} {left : List ℕ} → at ≤ length out → length (lineFormat .write l) ≤ length out - at → Put out at (lineFormat .write l) r left →
           lineWritten (To r) left ≡ putLine out at l
-      unfolding putLine unless
-      put-fits h k w =
-          rw (le-ltb 4096 (l .ecu) known, le-ltb 255 (length (l .bytes)) short, le-ltb (length out - at) (length (lineFormat .write l)) k)
-          (rw (← put-whole w (omega arith), w .bytes))
+      put-fits h k w = whole-stored h k w ∙ whole

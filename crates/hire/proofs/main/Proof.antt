@@ -1,8 +1,8 @@
 -- `hire::main` meets its contract.
-use Rattle.wire.proofs.PutLaws.{put-inside, put-length}
-use lib.Seq.{length-take-le}
-use native.Mathlib.Omega.{arith}
 use mathlib.Core.Path.{sym}
+use native.Mathlib.Omega.{arith}
+use lib.Seq.{length-take-le}
+use Rattle.hire_text.proofs.HireLaws.{text-inside}
 use borrow.Author.Needs.{needs}
 use Rattle.hire.proofs.main.Statement.{statement}
 use Rattle.hire.proofs.main.Tie as tie
@@ -28,17 +28,31 @@ slice-aggregate-hire-text-3 c = search needs
 hire-text-requires : tie.Need-hire-text-requires
 hire-text-requires c κs = search needs
 
+enum-known-end : tie.Need-enum-known-end
+enum-known-end c = search needs
+
+enum-told : tie.Need-enum-told
+enum-told c = search needs
+
+returns : tie.Need-returns
+returns c = search needs
+
 array-share-prefix-out : tie.Need-array-share-prefix-out
-array-share-prefix-out c = omega (arith, put-inside (c .before .before .hire-text .ensures .0) (omega arith), put-length (c .before .before .hire-text .ensures .0))
+array-share-prefix-out c =
+    let w = text-inside _ _ _ (c .before .before .before .before .before .hire-text .ensures .0) (c .before .end .given .1) in
+    omega (arith, w .0, w .1)
 
 slice-aggregate-write-all : tie.Need-slice-aggregate-write-all
-slice-aggregate-write-all c = sym (length-take-le _ _ (omega (arith, put-inside (c .before .before .before .hire-text .ensures .0) (omega arith), put-length (c .before .before .before .hire-text .ensures .0))))
+slice-aggregate-write-all c =
+    let k = c .before in
+    let w = text-inside _ _ _ (k .before .before .before .before .before .hire-text .ensures .0) (k .before .end .given .1) in
+    sym (length-take-le _ _ (omega (arith, w .0)))
 
 write-all-requires : tie.Need-write-all-requires
 write-all-requires c κs = search needs
 
-returns : tie.Need-returns
-returns c = search needs
+returns-2 : tie.Need-returns-2
+returns-2 c = search needs
 
 pub main-spec : {M : Type 1} → statement M
 main-spec =
@@ -51,7 +65,10 @@ main-spec =
     slice-aggregate-hire-text-2
     slice-aggregate-hire-text-3
     hire-text-requires
+    enum-known-end
+    enum-told
+    returns
     array-share-prefix-out
     slice-aggregate-write-all
     write-all-requires
-    returns)
+    returns-2)
