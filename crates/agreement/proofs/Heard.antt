@@ -20,6 +20,7 @@ use Rattle.reply.specs.Shape.{chipReply}
 use Rattle.reply.specs.Reply.{replyText}
 use Rattle.reply.proofs.SizeLaws.{line-length, linesSize, some-length, none-length}
 use Rattle.reply_lines.specs.Lines.{unspaced}
+use Rattle.reply_lines.proofs.DecodeLaws.{unspaced-length}
 use Rattle.query.specs.Query.{queryText}
 use Rattle.query.proofs.QueryLaws.{query-within, query-short}
 use Rattle.server_session.specs.declared.Phase.the-variants.{Reading, ObdCommand}
@@ -135,11 +136,8 @@ no-letter c (h, k) = rw (lt-leb 97 c (omega arith))
 canonical-unspaced : (s : List ℕ) → All Within s → canonical s ≡ unspaced s
 unfolding canonical
 canonical-unspaced [] a = refl
-canonical-unspaced (c ∷ s) a = rw (space-only c (a .0), no-letter c (a .0), canonical-unspaced s (a .1))
-
-unspaced-less : (s : List ℕ) → length (unspaced s) ≤ length s
-unspaced-less [] = omega arith
-unspaced-less (c ∷ s) = by-test (eqb c 32) (λ e. rw e (omega (arith, unspaced-less s))) (λ e. rw e (omega (arith, unspaced-less s)))
+canonical-unspaced (c ∷ s) a =
+    rw (space-only c (a .0), no-letter c (a .0), canonical-unspaced s (a .1)) (by-test (eqb c 32) (λ e. rw e) (λ e. rw e))
 
 module _ (pids : List ℕ) (count : ℕ) where
   -- it starts with 01
@@ -153,7 +151,7 @@ module _ (pids : List ℕ) (count : ℕ) where
 
   module _ (few : length pids ≤ 6) where
     pub unspaced-short : length (unspaced (queryText pids count)) ≤ 128
-    unspaced-short = omega (arith, unspaced-less (queryText pids count), query-short pids count few)
+    unspaced-short = omega (arith, unspaced-length (queryText pids count), query-short pids count few)
 
     module _ (c : count ≤ 256) where
       query-says : (last : List ℕ) →
