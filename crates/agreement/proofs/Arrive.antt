@@ -24,8 +24,8 @@ use Rattle.client_session.proofs.PieceLaws.{takes-too-much, piece-joined}
 use Rattle.client_session.proofs.StoreLaws.{store-holds, reply-in}
 use Rattle.client_session.proofs.PiecesLaws as inPieces
 use Rattle.client_session.proofs.PiecesLaws.{Awaiting, Plainly, prompted, piece-more, piece-stored, awaiting-more, all-of-it}
-use Rattle.exchange.specs.Deliver.{pieces, delivered}
-use Rattle.exchange.proofs.PiecesLaws.{pieces-sized, pieces-joined}
+use Rattle.bench.specs.Deliver.{pieces, delivered}
+use Rattle.bench.proofs.PiecesLaws.{pieces-sized, pieces-joined}
 use Rattle.bench.specs.Run.{sendRoom}
 
 none-yet : has 62 [] ≡ false

@@ -32,7 +32,7 @@ use Rattle.client_session.specs.Finish.{finishSays}
 use Rattle.client_session.proofs.StartLaws.{query-repeated, query-in-full}
 use Rattle.client_session.proofs.PiecesLaws.{Awaiting, prompted}
 use Rattle.script.specs.Script.{Query}
-use Rattle.exchange.specs.Exchange.{Exchanged, exchanged}
+use Rattle.bench.specs.Exchange.{Exchanged, exchanged}
 use Rattle.bench.specs.Run as run
 use Rattle.bench.specs.Run.{sendRoom, replyRoom, valuesRoom, Bench, Turn, turn, onward, startSays, Part, partOf, finished, part}
 use Rattle.line_list.proofs.LinesLaws.{AllBytes}

@@ -8,6 +8,7 @@ use lib.Dec.{eqb}
 use lib.ListN.{length}
 use lib.Seq.{take-all}
 use borrow.Author.Tests.{le-leb, lt-leb, ne-eqb, le-ltb}
+use Rattle.wire.specs.Answer.{unless}
 use Rattle.wire.specs.Text.{ascii, any, high, isSpace, raised}
 use Rattle.wire.proofs.All.{All}
 use Rattle.wire.proofs.Cases.{by-test}
@@ -22,11 +23,12 @@ use Rattle.query.specs.Query.{queryText}
 use Rattle.query.proofs.QueryLaws.{query-within, query-short}
 use Rattle.server_session.specs.declared.Phase.the-variants.{Reading, ObdCommand}
 use Rattle.server_session.specs.Session.{Session, freshSession}
-use Rattle.server_session.specs.Bytes.{canonical, byteNumber, withLine, commandPhase, byteTaken, byteSays, Heard, bytesSay}
+use Rattle.server_session.specs.Call.{ServerSaid}
+use Rattle.server_session.specs.Bytes.{canonical, withLine, commandPhase, byteTaken, byteSays, bytesSay}
 use Rattle.server_session.specs.Replies.{answerSays, lastAfter, replySays}
 use Rattle.server_session.specs.Steps.{isSpecial}
 use Rattle.server_session.proofs.BytesLaws.{handing, cr-repeat, line-says}
-use Rattle.exchange.specs.Exchange.{answered, exchanged}
+use Rattle.bench.specs.Exchange.{answeredBy, exchanged}
 use Rattle.bench.specs.Run.{replyRoom}
 
 -- ---- the initialisation
@@ -45,31 +47,31 @@ quiet last = record { state = record { echo = false; linefeeds = false; spaces =
 
 pub reset-heard : exchanged replyRoom freshSession (ascii "ATZ\r") [] ≡
     record { next = during true true true false; text = ascii "ATZ\r\r\n\r\nELM327 v1.5\r\n\r\n>"; handed = [] }
-unfolding exchanged bytesSay byteSays byteNumber byteTaken canonical isSpace raised answerSays high atKind
+unfolding exchanged bytesSay byteSays unless byteTaken canonical isSpace raised answerSays high atKind
 reset-heard = refl
 
 pub echo-off-heard : exchanged replyRoom (during true true true false) (ascii "ATE0\r") [] ≡
     record { next = during false true true false; text = ascii "ATE0\rOK\r\n\r\n>"; handed = [] }
-unfolding exchanged bytesSay byteSays byteNumber byteTaken canonical isSpace raised answerSays high atKind
+unfolding exchanged bytesSay byteSays unless byteTaken canonical isSpace raised answerSays high atKind
 echo-off-heard = refl
 
 pub linefeeds-off-heard : exchanged replyRoom (during false true true false) (ascii "ATL0\r") [] ≡
     record { next = during false false true false; text = ascii "OK\r\r>"; handed = [] }
-unfolding exchanged bytesSay byteSays byteNumber byteTaken canonical isSpace raised answerSays high atKind
+unfolding exchanged bytesSay byteSays unless byteTaken canonical isSpace raised answerSays high atKind
 linefeeds-off-heard = refl
 
 pub spaces-off-heard : exchanged replyRoom (during false false true false) (ascii "ATS0\r") [] ≡
     record { next = during false false false false; text = ascii "OK\r\r>"; handed = [] }
-unfolding exchanged bytesSay byteSays byteNumber byteTaken canonical isSpace raised answerSays high atKind
+unfolding exchanged bytesSay byteSays unless byteTaken canonical isSpace raised answerSays high atKind
 spaces-off-heard = refl
 
 pub protocol-heard : exchanged replyRoom (during false false false false) (ascii "ATSP0\r") [] ≡
     record { next = during false false false false; text = ascii "OK\r\r>"; handed = [] }
-unfolding exchanged bytesSay byteSays byteNumber byteTaken canonical isSpace raised answerSays high atKind
+unfolding exchanged bytesSay byteSays unless byteTaken canonical isSpace raised answerSays high atKind
 protocol-heard = refl
 
 pub headers-on-heard : exchanged replyRoom (during false false false false) (ascii "ATH1\r") [] ≡ record { next = quiet []; text = ascii "OK\r\r>"; handed = [] }
-unfolding exchanged bytesSay byteSays byteNumber byteTaken canonical isSpace raised answerSays high atKind
+unfolding exchanged bytesSay byteSays unless byteTaken canonical isSpace raised answerSays high atKind
 headers-on-heard = refl
 
 -- ---- a reply's size
@@ -101,9 +103,9 @@ lines-heard : (last text command : List ℕ) (n : ℕ) → bytesSay replyRoom (q
     (ls : List Line) → AllFit ls → length ls ≤ 64 →
     exchanged replyRoom (quiet last) text (linesBytes ls) ≡
     record { next = quiet (lastCommand ls last command); text = replyText false false true ls; handed = command ∷ [] }
-unfolding exchanged replySays
+unfolding exchanged replySays unless
 lines-heard last text command n e k ls f h =
-    ap (λ (d : Heard). answered (replyRoom - length (d .text)) (d .answer) d (linesBytes ls)) e ∙
+    ap (λ (d : ServerSaid). answeredBy (replyRoom - length (d .text)) (d .answer) d (linesBytes ls)) e ∙
     rw (list-back ls f h, le-ltb replyRoom _ (reply-fits ls f h), kept-whole last command k ls)
 
 -- ---- a query's text
@@ -188,5 +190,5 @@ heard-again t some short ls f h =
 
 -- where there is none it is unknown, whatever the lines
 pub heard-unknown : (list : List ℕ) → exchanged replyRoom (quiet []) (13 ∷ []) list ≡ record { next = quiet []; text = chipReply false (ascii "?" ∷ []); handed = [] }
-unfolding exchanged bytesSay byteSays byteNumber byteTaken canonical
+unfolding exchanged bytesSay byteSays unless byteTaken canonical
 heard-unknown list = refl

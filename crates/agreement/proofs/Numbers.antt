@@ -31,7 +31,7 @@ use Rattle.client_session.proofs.PiecesLaws.{Awaiting, prompted}
 use Rattle.group.specs.Group.{Read, got}
 use Rattle.group.specs.Group.{malformed as none}
 use Rattle.script.specs.Script.{Query, readQueries, queriesOf, script}
-use Rattle.exchange.specs.Exchange.{Exchanged, exchanged}
+use Rattle.bench.specs.Exchange.{Exchanged, exchanged}
 use Rattle.bench.specs.Run as run
 use Rattle.bench.specs.Run.{sendRoom, replyRoom, valuesRoom, Bench, Turn, turn, onward, later, startSays, Part, partOf, finished, part, asked, runSays, runRead, initialised}
 use Rattle.agreement.specs.Ends as ends

@@ -20,8 +20,8 @@ use Rattle.client_session.specs.Start.{isNothing, newQuery, queryStarted}
 use Rattle.client_session.specs.Piece.{complete, isAwaited, isReset, replyIn}
 use Rattle.client_session.proofs.StartLaws.{pid-starts, pids-starts}
 use Rattle.client_session.proofs.PiecesLaws.{Awaiting, prompted}
-use Rattle.exchange.specs.Exchange.{Exchanged, exchanged}
-use Rattle.exchange.specs.Deliver.{delivered}
+use Rattle.bench.specs.Exchange.{Exchanged, exchanged}
+use Rattle.bench.specs.Deliver.{delivered}
 use Rattle.bench.specs.Run.{sendRoom, replyRoom, Bench, turn, startSays}
 use Rattle.agreement.proofs.Heard.{quiet}
 use Rattle.agreement.proofs.Arrive.{reply-stands, plainly, no-question, reply-overflows}

@@ -19,8 +19,8 @@ use Rattle.client_session.specs.Session.{Client, Known, freshClient, withFramin
 use Rattle.client_session.specs.Start.{initSays}
 use Rattle.client_session.specs.Piece.{Progress, sent, over, completed, pieceSays}
 use Rattle.client_session.proofs.PiecesLaws.{Awaiting, Plainly, prompted}
-use Rattle.exchange.specs.Exchange.{Exchanged, exchanged}
-use Rattle.exchange.specs.Deliver.{delivered}
+use Rattle.bench.specs.Exchange.{Exchanged, exchanged}
+use Rattle.bench.specs.Deliver.{delivered}
 use Rattle.bench.specs.Run.{sendRoom, replyRoom, freshStore, Bench, Turn, turned, turn, onward, reset, initialised}
 use Rattle.agreement.proofs.Agree.{Agree, agree-fresh}
 use Rattle.agreement.proofs.Heard.{quiet, during, reset-heard, echo-off-heard, linefeeds-off-heard, spaces-off-heard, protocol-heard, headers-on-heard}

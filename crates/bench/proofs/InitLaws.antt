@@ -16,20 +16,19 @@ use Rattle.client_session.specs.Start.{initSays, startServed}
 use Rattle.client_session.specs.Piece.{Progress, pieceSays, Received, pieceReceived, pieceLent, receiving}
 use Rattle.client_session.proofs.StartLaws.{init-starts, init-fits}
 use Rattle.client_session.proofs.PieceLaws.{piece-fits}
-use Rattle.exchange.specs.declared.ExchangeStep.{ExchangeStep}
-use Rattle.exchange.specs.Exchange.{Exchanged, exchanged, exchangeServed}
-use Rattle.exchange.specs.Exchange as exchange
+use Rattle.bench.specs.declared.ExchangeStep.{ExchangeStep}
+use Rattle.bench.specs.Exchange.{Exchanged, exchanged}
 use Rattle.bench.specs.declared.Turn as code-turn
 use Rattle.bench.specs.Run.{sendRoom, replyRoom, freshStore, onward, initialised}
-use Rattle.bench.specs.Steps.{turnOf, resetFresh, FreshHears, OnePiece, Does, Comes}
+use Rattle.bench.specs.Steps.{exchangeStep, exchangeLent, turnOf, resetFresh, FreshHears, OnePiece, Does, Comes}
 use Rattle.bench.proofs.TurnLaws.{lent-length, lent-text, lent-inside, reply-text, reply-next, reply-length}
 use Rattle.bench.proofs.AskLaws.{start-text, start-size, start-inside}
 use Rattle.bench.proofs.OnwardLaws.{held-then, does-held, onward-held}
 
 -- a fresh server hears a command
 pub fresh-hears : (command reply reply₁ : List ℕ) (server : ServerSession) (x : ExchangeStep) → session server ≡ freshSession →
-    exchangeServed x reply₁ ≡ exchange.lent (exchanged (length reply) (session server) command []) reply → FreshHears command reply x reply₁
-fresh-hears command reply reply₁ server x ready e = e ∙ ap (λ s. exchange.lent (exchanged (length reply) s command []) reply) ready
+    exchangeStep x reply₁ ≡ exchangeLent (exchanged (length reply) (session server) command []) reply → FreshHears command reply x reply₁
+fresh-hears command reply reply₁ server x ready e = e ∙ ap (λ s. exchangeLent (exchanged (length reply) s command []) reply) ready
 
 -- ATZ goes out
 pub reset-sent : (repeat : Bool) (out out₁ : List ℕ) (fresh : ClientSession) (i : StartStep) → length out ≡ sendRoom → client fresh ≡ freshClient true repeat →

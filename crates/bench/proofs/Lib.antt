@@ -1,4 +1,7 @@
 pub mod Worked
+pub mod PiecesLaws
+pub mod ExchangeLaws
+pub mod DeliverLaws
 mod TurnLaws
 mod OnwardLaws
 mod AskLaws

@@ -14,17 +14,16 @@ use Rattle.server_session.specs.Session.{Session, session}
 use Rattle.client_session.specs.declared.ClientSession.{ClientSession}
 use Rattle.client_session.specs.Session.{Client, client}
 use Rattle.client_session.specs.Piece.{Progress}
-use Rattle.exchange.specs.declared.ExchangeStep.{ExchangeStep}
-use Rattle.exchange.specs.declared.Delivery.{Delivery}
-use Rattle.exchange.specs.Exchange.{Exchanged, exchanged, exchangeServed}
-use Rattle.exchange.specs.Exchange as exchange
-use Rattle.exchange.specs.Deliver.{Delivered, delivered, Received, deliveryReceived, receiving}
-use Rattle.exchange.proofs.ExchangeLaws.{exchanged-fits, exchange-written}
-use Rattle.exchange.proofs.DeliverLaws.{delivered-fits}
+use Rattle.bench.specs.declared.ExchangeStep.{ExchangeStep}
+use Rattle.bench.specs.declared.Delivery.{Delivery}
+use Rattle.bench.specs.Exchange.{Exchanged, exchanged}
+use Rattle.bench.specs.Deliver.{Delivered, delivered}
+use Rattle.bench.proofs.ExchangeLaws.{exchanged-fits, exchange-written}
+use Rattle.bench.proofs.DeliverLaws.{delivered-fits}
 use Rattle.bench.specs.declared.Bench as code
 use Rattle.bench.specs.declared.Turn as code-turn
 use Rattle.bench.specs.Run.{sendRoom, replyRoom, turn}
-use Rattle.bench.specs.Steps.{benchOf, Back, Does}
+use Rattle.bench.specs.Steps.{ExchangeServed, exchangeStep, exchangeLent, DeliveryServed, deliveryStep, deliveryLent, benchOf, Back, Does}
 
 -- a text that fits stands at the front of a buffer
 pub front : (buffer text : List ℕ) → length text ≤ length buffer → take (length text) (sets buffer 0 text) ≡ text
@@ -45,34 +44,34 @@ module _ {A : Type 0} (d : Said Client A) (out : List ℕ) (v : Served Client A)
     lent-inside = let w : v .written ≡ length (d .text) = ap (λ (x : Served Client A). x .written) e in omega (arith, fits, lent-length)
 
 -- what the server sent stands in its buffer
-module _ (s : Session) (command list reply reply₁ : List ℕ) (x : ExchangeStep) (e : exchangeServed x reply₁ ≡ exchange.lent (exchanged (length reply) s command list) reply) where
+module _ (s : Session) (command list reply reply₁ : List ℕ) (x : ExchangeStep) (e : exchangeStep x reply₁ ≡ exchangeLent (exchanged (length reply) s command list) reply) where
   pub reply-text : take (x .written) reply₁ ≡ exchanged (length reply) s command list .text
   reply-text =
       (λ i. take (e i .written) (e i .out)) ∙ front reply (exchanged (length reply) s command list .text) (exchanged-fits (length reply) s command list)
 
   pub reply-next : session (x .session) ≡ exchanged (length reply) s command list .next
-  reply-next = ap (λ (v : exchange.Served). v .next) e
+  reply-next = ap (λ (v : ExchangeServed). v .next) e
 
   pub reply-length : length reply₁ ≡ length reply
-  reply-length = ap (λ (v : exchange.Served). length (v .out)) e ∙ length-sets reply 0 (exchanged (length reply) s command list .text)
+  reply-length = ap (λ (v : ExchangeServed). length (v .out)) e ∙ length-sets reply 0 (exchanged (length reply) s command list .text)
 
   pub reply-inside : x .written ≤ length reply₁
   reply-inside = omega (arith, exchange-written s command list reply reply₁ x e, reply-length)
 
 -- and what the client sends next in its own
 module _ (c : ClientSession) (short : length (c .query .bytes) ≡ 18) (server : ServerSession) (store ks r out lengths store₁ out₁ : List ℕ) (d : Delivery)
-    (size : length out ≡ sendRoom) (e : deliveryReceived lengths d store₁ out₁ ≡ receiving (delivered (length out) (client c) store ks r) out) where
-  said : deliveryReceived lengths d store₁ out₁ ≡ receiving (delivered sendRoom (client c) store ks r) out
-  said = e ∙ ap (λ n. receiving (delivered n (client c) store ks r) out) size
+    (size : length out ≡ sendRoom) (e : deliveryStep lengths d store₁ out₁ ≡ deliveryLent (delivered (length out) (client c) store ks r) out) where
+  said : deliveryStep lengths d store₁ out₁ ≡ deliveryLent (delivered sendRoom (client c) store ks r) out
+  said = e ∙ ap (λ n. deliveryLent (delivered n (client c) store ks r) out) size
 
   abbrev says : Said Client Progress
   says = delivered sendRoom (client c) store ks r .said
 
   abbrev served : Served Client Progress
-  served = deliveryReceived lengths d store₁ out₁ .served
+  served = deliveryStep lengths d store₁ out₁ .served
 
   does : served ≡ lent says out
-  does = ap (λ (v : Received). v .served) said
+  does = ap (λ (v : DeliveryServed). v .served) said
 
   next-fits : length (says .text) ≤ length out
   next-fits = omega (arith, size, delivered-fits sendRoom (client c) store ks r (omega (arith, text-short (c .query) short)))
@@ -80,11 +79,11 @@ module _ (c : ClientSession) (short : length (c .query .bytes) ≡ 18) (server :
   pub back-does : Back (delivered sendRoom (client c) store ks r) server
       (record { answer = d .answer; written = d .written; bench = record { client = d .session; server = server; used = d .used } }) out₁ store₁ lengths
   back-does = record {
-    answer = ap (λ (v : Received). v .served .answer) said;
+    answer = ap (λ (v : DeliveryServed). v .served .answer) said;
     text = lent-text says out served does next-fits;
-    next = ap (λ (v : Received). v .served .next) said;
-    kept = ap (λ (v : Received). v .store) said;
-    left = ap (λ (v : Received). v .lengths) said;
+    next = ap (λ (v : DeliveryServed). v .served .next) said;
+    kept = ap (λ (v : DeliveryServed). v .store) said;
+    left = ap (λ (v : DeliveryServed). v .lengths) said;
     waits = refl;
     inside = lent-inside says out served does next-fits;
     size = lent-length says out served does ∙ size;
@@ -92,7 +91,7 @@ module _ (c : ClientSession) (short : length (c .query .bytes) ≡ 18) (server :
 
 -- the two together
 module _ (b : code.Bench) (command list lengths reply store out₁ reply₁ store₁ : List ℕ) (x : ExchangeStep) (r : code-turn.Turn) (size : length reply ≡ replyRoom)
-    (heard : exchangeServed x reply₁ ≡ exchange.lent (exchanged (length reply) (session (b .server)) command list) reply)
+    (heard : exchangeStep x reply₁ ≡ exchangeLent (exchanged (length reply) (session (b .server)) command list) reply)
     (given : Back (delivered sendRoom (client (b .client)) store (drop (b .used) lengths) (take (x .written) reply₁)) (x .session) r out₁ store₁ lengths) where
   abbrev exchanges : Exchanged
   exchanges = exchanged replyRoom (session (b .server)) command list

@@ -3,7 +3,7 @@ use mathlib.Core.Path.{_≡_, refl}
 use mathlib.Core.Bool.{true}
 use mathlib.Core.List.{List, [], _∷_, _++_}
 use Prim.Native.Nat.{ℕ}
-use Rattle.wire.specs.Answer.{result, refused}
+use Rattle.wire.specs.Answer.{result, refused, unless}
 use Rattle.wire.specs.Text.{ascii, has, high, isSpace, raised}
 use Rattle.hex.specs.Digits.{hexDigit}
 use Rattle.hex.specs.Read.{digit, leading}
@@ -14,7 +14,7 @@ use Rattle.line_list.specs.Lines.{lineList}
 use Rattle.value.specs.Values.{valueBytes}
 use Rattle.at_command.specs.Dialect.{atKind}
 use Rattle.reply.specs.Reply.{lineText, replyText}
-use Rattle.server_session.specs.Bytes.{canonical, byteNumber, byteTaken, byteSays, bytesSay}
+use Rattle.server_session.specs.Bytes.{canonical, byteTaken, byteSays, bytesSay}
 use Rattle.server_session.specs.Replies.{answerSays, replySays}
 use Rattle.query.specs.Query.{queryText}
 use Rattle.reply_lines.specs.Lines.{textLines}
@@ -25,8 +25,8 @@ use Rattle.client_session.specs.Start.{initSays, queryPidSays, queryPidsSays}
 use Rattle.client_session.specs.Piece.{replyTakes, pieceSays}
 use Rattle.client_session.specs.Finish.{finishSays}
 use Rattle.script.specs.Script.{script}
-use Rattle.exchange.specs.Exchange.{exchanged}
-use Rattle.exchange.specs.Deliver.{pieces, delivered}
+use Rattle.bench.specs.Exchange.{exchanged}
+use Rattle.bench.specs.Deliver.{pieces, delivered}
 use Rattle.bench.specs.Run.{initialised, part, runSays}
 
 abbrev worked : List ℕ
@@ -45,5 +45,5 @@ examples :
     (runSays true [] 9 (worked ++ worked) ≡ record { answer = refused 6; parts = workedPart ∷ []; handed = ascii "010C1" ∷ ascii "010C1" ∷ [] }) ×
     (runSays true [] 2 (noData ++ noData) ≡ record { answer = result tt; parts = (0x00 ∷ []) ∷ (0x00 ∷ []) ∷ []; handed = ascii "010C" ∷ ascii "010C" ∷ [] }) ×
     (runSays true [] 9 (0x00 ∷ worked) ≡ record { answer = refused 5; parts = []; handed = [] })
-unfolding has high isSpace raised hexDigit digit leading j1979 mode01Lengths groupBytes lineList valueBytes atKind lineText replyText canonical byteNumber byteTaken byteSays bytesSay answerSays replySays queryText textLines textLine replyLines walked answerOrder learnLength initSays queryPidSays queryPidsSays replyTakes pieceSays finishSays script exchanged pieces delivered initialised part runSays
+unfolding has high isSpace raised hexDigit digit leading j1979 mode01Lengths groupBytes lineList valueBytes atKind lineText replyText canonical unless byteTaken byteSays bytesSay answerSays replySays queryText textLines textLine replyLines walked answerOrder learnLength initSays queryPidSays queryPidsSays replyTakes pieceSays finishSays script exchanged pieces delivered initialised part runSays
 examples = (refl, refl, refl, refl)

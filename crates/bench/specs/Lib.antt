@@ -1,2 +1,4 @@
+pub mod Exchange
+pub mod Deliver
 pub mod Run
 pub mod Steps

@@ -20,8 +20,8 @@ use Rattle.client_session.specs.Start.{initSays, queryPidSays, queryPidsSays}
 use Rattle.client_session.specs.Piece.{Progress, awaited, sent, over, complete, pieceSays, stored}
 use Rattle.client_session.specs.Finish.{finishSays}
 use Rattle.script.specs.Script.{Query, script}
-use Rattle.exchange.specs.Exchange.{Exchanged, exchanged}
-use Rattle.exchange.specs.Deliver.{Delivered, delivered}
+use Rattle.bench.specs.Exchange.{Exchanged, exchanged}
+use Rattle.bench.specs.Deliver.{Delivered, delivered}
 use Rattle.bench.specs.declared.RunAnswer.{RunAnswer}
 use Rattle.bench.specs.declared.RunAnswer.the-variants as answer
 use Rattle.bench.specs.declared.BenchRun.{BenchRun}

@@ -6,25 +6,62 @@ use Prim.Native.Nat.{ℕ, zero, suc, _+_, _≤_}
 use lib.ListN.{length, take, drop}
 use lib.Seq.{sets}
 use Rattle.wire.specs.Answer.{Answer, result, refused}
-use Rattle.wire.specs.Call.{Said}
+use Rattle.wire.specs.Call.{Said, Served, lent}
 use Rattle.wire.specs.Text.{joined}
 use Rattle.group.specs.Group.{groupBytes}
 use Rattle.server_session.specs.declared.ServerSession.{ServerSession}
-use Rattle.server_session.specs.Session.{session, freshSession}
+use Rattle.server_session.specs.Session.{Session, session, freshSession}
 use Rattle.client_session.specs.Session.{Client, client, freshClient}
 use Rattle.client_session.specs.Start.{initSays}
 use Rattle.client_session.specs.declared.PieceAnswer.{PieceAnswer}
 use Rattle.client_session.specs.declared.FinishAnswer.{FinishAnswer}
 use Rattle.client_session.specs.Piece.{Progress, awaited, sent, over, complete, pieceAnswer, Received, pieceReceived}
 use Rattle.client_session.specs.Finish.{finishAnswer}
-use Rattle.exchange.specs.declared.ExchangeStep.{ExchangeStep}
-use Rattle.exchange.specs.Exchange.{exchanged, exchangeServed, lent}
-use Rattle.exchange.specs.Deliver.{Delivered}
+use Rattle.bench.specs.declared.Delivery.{Delivery}
+use Rattle.bench.specs.declared.ExchangeStep.{ExchangeStep}
+use Rattle.bench.specs.Exchange.{Exchanged, exchanged}
+use Rattle.bench.specs.Deliver.{Delivered}
 use Rattle.script.specs.Script.{Query, script}
 use Rattle.bench.specs.declared.Bench as code
 use Rattle.bench.specs.declared.PartStep.{PartStep}
 use Rattle.bench.specs.declared.Turn as code-turn
 use Rattle.bench.specs.Run.{Bench, Turn, Part, Run, Recorded, sendRoom, replyRoom, reset, finished, standing}
+
+-- An exchange as the code has it: how many bytes stand in the lent out buffer, the next session, and the buffer.
+pub record ExchangeServed : Type 0 where
+  pub written : ℕ
+  pub next : Session
+  pub out : List ℕ
+
+abbrev pub exchangeStep : ExchangeStep → List ℕ → ExchangeServed
+exchangeStep r out = record { written = r .written; next = session (r .session); out = out }
+
+abbrev pub exchangeLent : Exchanged → List ℕ → ExchangeServed
+exchangeLent x out = record { written = length (x .text); next = x .next; out = sets out 0 (x .text) }
+
+-- A delivery as the code has it, where ks are all piece lengths.
+pub record DeliveryServed : Type 0 where
+  pub served : Served Client Progress
+  pub store : List ℕ
+  pub lengths : List ℕ
+
+abbrev pub deliveryStep : List ℕ → Delivery → List ℕ → List ℕ → DeliveryServed
+deliveryStep ks r store out = record {
+  served = record { answer = pieceAnswer (r .answer); written = r .written; next = client (r .session); out = out };
+  store = store;
+  lengths = drop (r .used) ks;
+}
+
+abbrev pub deliveryLent : Delivered → List ℕ → DeliveryServed
+deliveryLent d out = record { served = lent (d .said) out; store = d .store; lengths = d .lengths }
+
+-- more of the reply is awaited
+abbrev pub awaits : Answer Progress → Bool
+awaits (result awaited) = true
+awaits (result sent) = false
+awaits (result over) = false
+awaits (result complete) = false
+awaits (refused n) = false
 
 -- both sessions as the code holds them
 abbrev pub benchOf : code.Bench → List ℕ → List ℕ → Bench
@@ -46,7 +83,7 @@ Room out reply = (length out ≡ sendRoom) × (length reply ≡ replyRoom)
 
 -- a fresh server has heard a command
 abbrev pub FreshHears : List ℕ → List ℕ → ExchangeStep → List ℕ → Type 0
-FreshHears command reply x reply₁ = exchangeServed x reply₁ ≡ lent (exchanged (length reply) freshSession command []) reply
+FreshHears command reply x reply₁ = exchangeStep x reply₁ ≡ exchangeLent (exchanged (length reply) freshSession command []) reply
 
 -- The reply has been delivered, and the server waits.
 pub record Back (d : Delivered) (server : ServerSession) (r : code-turn.Turn) (out store lengths : List ℕ) : Type 0 where

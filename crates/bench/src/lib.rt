@@ -1,5 +1,6 @@
 // The bench run: a script of queries through a client session joined to a server session, and the hire record of it (document 01's terms).
 mod ask;
+mod exchange;
 mod turns;
 
 use client_session::ClientSession;
@@ -35,6 +36,24 @@ pub struct BenchRun {
 struct Bench {
     client: ClientSession,
     server: ServerSession,
+    used: usize,
+}
+
+// What the server did for a command.
+struct ExchangeStep {
+    // How many bytes of out the server sends.
+    written: usize,
+    session: ServerSession,
+}
+
+// What the client was told.
+struct Delivery {
+    // What the last piece that was given says.
+    answer: PieceAnswer,
+    // How many bytes of out the client sends next.
+    written: usize,
+    session: ClientSession,
+    // How many piece lengths are used up.
     used: usize,
 }
 

@@ -1,10 +1,11 @@
 // One command of the client, and those that it sends of its own accord.
 use crate::Bench;
+use crate::ExchangeStep;
 use crate::Turn;
+use crate::exchange;
 use client_session::ClientSession;
 use client_session::PieceAnswer;
 use client_session::StartStep;
-use exchange::ExchangeStep;
 use server_session::ServerSession;
 ghost use mathlib.Core.Path.{_≡_};
 ghost use mathlib.Core.Bool.{true};
@@ -15,7 +16,7 @@ ghost use Rattle.wire.specs.Call.{lent};
 ghost use Rattle.client_session.specs.Session.{client, freshClient};
 ghost use Rattle.client_session.specs.Start.{initSays, startServed};
 ghost use Rattle.client_session.specs.Piece.{pieceLent};
-ghost use Rattle.exchange.specs.Deliver.{delivered};
+ghost use Rattle.bench.specs.Deliver.{delivered};
 ghost use Rattle.bench.specs.Run.{sendRoom, replyRoom, freshStore, turn, onward, initialised};
 ghost use Rattle.bench.specs.Steps.{isSent, benchOf, turnOf, resetFresh, Room, FreshHears, Back, OnePiece, Does, Comes};
 

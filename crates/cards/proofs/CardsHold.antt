@@ -2,7 +2,7 @@
 use mathlib.Core.Path.{_≡_, refl}
 use mathlib.Core.Bool.{true}
 use lib.ListN.{replicate}
-use Rattle.wire.specs.Answer.{result, refused}
+use Rattle.wire.specs.Answer.{result, refused, unless}
 use Rattle.wire.specs.Text.{has, high, isSpace, raised}
 use Rattle.hex.specs.Digits.{hexDigit}
 use Rattle.hex.specs.Read.{digit, leading}
@@ -14,7 +14,8 @@ use Rattle.value.specs.Values.{valueBytes}
 use Rattle.at_command.specs.Dialect.{atKind}
 use Rattle.reply.specs.Reply.{lineText, replyText}
 use Rattle.server_session.specs.Session.{freshSession}
-use Rattle.server_session.specs.Bytes.{canonical, byteNumber, byteTaken, byteSays, Heard, bytesSay}
+use Rattle.server_session.specs.Call.{ServerSaid}
+use Rattle.server_session.specs.Bytes.{canonical, byteTaken, byteSays, bytesSay}
 use Rattle.client_session.specs.Session.{freshClient}
 use Rattle.server_session.specs.Replies.{answerSays, replySays}
 use Rattle.query.specs.Query.{queryText}
@@ -25,7 +26,7 @@ use Rattle.client_session.specs.Start.{queryPidsSays}
 use Rattle.cards.specs.Cards.{cards, Hold}
 
 pub cards-hold : Hold cards
-unfolding has high isSpace raised hexDigit digit leading j1979 mode01Lengths groupBytes lineList valueBytes atKind lineText replyText canonical byteNumber byteTaken byteSays bytesSay answerSays replySays queryText textLines textLine replyLines walked answerOrder queryPidsSays
+unfolding has high isSpace raised hexDigit digit leading j1979 mode01Lengths groupBytes lineList valueBytes atKind lineText replyText canonical unless byteTaken byteSays bytesSay answerSays replySays queryText textLines textLine replyLines walked answerOrder queryPidsSays
 cards-hold = (refl, (refl, (refl, (refl, (refl, (refl, (refl, (refl, (refl, (refl, (refl, (refl, (refl, (refl, tt))))))))))))))
 
 -- card 13: six PIDs pass, seven get 2; byte 128 of a line is stored, the next gets 10
@@ -37,9 +38,9 @@ pub seven-pids : queryPidsSays 80 (freshClient true true) (replicate 7 0x0C) 0 .
 unfolding queryPidsSays queryText hexDigit
 seven-pids = refl
 
-abbrev long : Heard
+abbrev long : ServerSaid
 long = bytesSay 256 freshSession (replicate 129 65)
 
 pub long-line : (long .answer ≡ refused 10) × (long .taken ≡ 128) × (long .next .line ≡ replicate 128 65)
-unfolding bytesSay byteSays byteNumber byteTaken
+unfolding bytesSay byteSays unless byteTaken
 long-line = (refl, refl, refl)

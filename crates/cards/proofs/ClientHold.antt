@@ -8,7 +8,7 @@ use Rattle.client_command.specs.Commands.{framingEffect}
 use Rattle.client_session.specs.Start.{initSays, commandSays, queryPidSays, queryPidsSays}
 use Rattle.client_session.specs.Piece.{replyTakes, pieceSays, failureSays}
 use Rattle.client_session.specs.Pieces.{Sized}
-use Rattle.exchange.specs.Deliver.{pieces, delivered}
+use Rattle.bench.specs.Deliver.{pieces, delivered}
 use Rattle.cards.specs.Example.{AsExpected}
 use Rattle.cards.specs.Client.{client, inPieces}
 

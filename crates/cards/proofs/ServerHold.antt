@@ -1,5 +1,6 @@
 -- The examples of the server's end hold, by computation.
 use mathlib.Core.Path.{refl}
+use Rattle.wire.specs.Answer.{unless}
 use Rattle.wire.specs.Text.{high, isSpace, raised}
 use Rattle.hex.specs.Digits.{hexDigit}
 use Rattle.line_list.specs.Lines.{lineList}
@@ -7,12 +8,12 @@ use Rattle.at_command.specs.Dialect.{atKind}
 use Rattle.reply.specs.Reply.{lineText, replyText}
 use Rattle.reply.specs.Answers.{replied}
 use Rattle.reply.specs.Steps.{replySize}
-use Rattle.server_session.specs.Bytes.{canonical, byteNumber, byteTaken, byteSays, bytesSay}
+use Rattle.server_session.specs.Bytes.{canonical, byteTaken, byteSays, bytesSay}
 use Rattle.server_session.specs.Replies.{answerSays, replySays, rejectSays}
-use Rattle.exchange.specs.Exchange.{exchanged}
+use Rattle.bench.specs.Exchange.{exchanged}
 use Rattle.cards.specs.Example.{AsExpected}
 use Rattle.cards.specs.Server.{server}
 
 pub server-holds : AsExpected server
-unfolding high isSpace raised hexDigit lineList atKind lineText replyText replied replySize canonical byteNumber byteTaken byteSays bytesSay answerSays replySays rejectSays exchanged
-server-holds = (refl, (refl, (refl, (refl, (refl, (refl, (refl, (refl, (refl, (refl, (refl, (refl, (refl, (refl, (refl, (refl, (refl, (refl, (refl, (refl, (refl, (refl, (refl, (refl, (refl, (refl, (refl, (refl, (refl, (refl, tt))))))))))))))))))))))))))))))
+unfolding high isSpace raised hexDigit lineList atKind lineText replyText replied replySize canonical unless byteTaken byteSays bytesSay answerSays replySays rejectSays exchanged
+server-holds = (refl, (refl, (refl, (refl, (refl, (refl, (refl, (refl, (refl, (refl, (refl, (refl, (refl, (refl, (refl, (refl, (refl, (refl, (refl, (refl, (refl, (refl, (refl, (refl, (refl, (refl, (refl, (refl, (refl, tt)))))))))))))))))))))))))))))

@@ -13,7 +13,8 @@ use Rattle.reply_lines.specs.Decode.{replyLines}
 use Rattle.reply_values.specs.Values.{valuesOf}
 use Rattle.server_session.specs.Session.{freshSession}
 use Rattle.server_session.specs.declared.Phase.the-variants.{ObdCommand}
-use Rattle.server_session.specs.Bytes.{Heard, bytesSay}
+use Rattle.server_session.specs.Call.{ServerSaid}
+use Rattle.server_session.specs.Bytes.{bytesSay}
 use Rattle.server_session.specs.Replies.{answerSays, replySays}
 use Rattle.client_session.specs.Session.{freshClient}
 use Rattle.client_session.specs.Start.{queryPidsSays}
@@ -45,7 +46,7 @@ abbrev set : Bool → Bool → Bool → Bool → Settings
 set echo linefeeds spaces headers = record { echo = echo; linefeeds = linefeeds; spaces = spaces; headers = headers; last = [] }
 
 -- what a fresh server sends for some bytes, and what it then answers to an AT command
-abbrev heard : String → Heard
+abbrev heard : String → ServerSaid
 heard t = bytesSay 64 freshSession (ascii t)
 
 abbrev atAnswer : String → List ℕ

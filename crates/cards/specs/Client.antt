@@ -20,7 +20,8 @@ use Rattle.client_session.specs.Session.{Client, freshClient, withUnder}
 use Rattle.client_session.specs.Start.{initSays, commandSays, queryPidSays, queryPidsSays, startAnswer, startServed}
 use Rattle.client_session.specs.Piece.{Progress, awaited, sent, over, complete, pieceSays, failureSays, pieceAnswer, isWrite, pieceReceived, pieceLent}
 use Rattle.client_session.specs.Pieces.{fed}
-use Rattle.exchange.specs.Deliver.{pieces, delivered, deliveryReceived, receiving}
+use Rattle.bench.specs.Deliver.{pieces, delivered}
+use Rattle.bench.specs.Steps.{deliveryStep, deliveryLent}
 use Rattle.cards.specs.Example.{Example, example}
 
 abbrev pub emptyStore : List ℕ
@@ -91,8 +92,8 @@ client =
     example "a query goes out" (lent (queryPidSays 80 new 0x0C 0) out) (startServed (record { answer = start.Sent; written = 5; session = held 0 }) (ascii "010C\r" ++ replicate 75 9)) ∷
     example "a piece of its reply is stored" (pieceLent (queryPidSays 80 new 0x0C 0 .next) (ascii "41") emptyStore out)
     (pieceReceived (record { answer = piece.Awaited; written = 0; session = held 2 }) out (ascii "41" ++ replicate 4094 0)) ∷
-    example "as in a delivery, which uses up a piece length" (receiving (delivered 80 (queryPidSays 80 new 0x0C 0 .next) emptyStore (2 ∷ 9 ∷ []) (ascii "41")) out)
-    (deliveryReceived (2 ∷ 9 ∷ []) (record { answer = piece.Awaited; written = 0; session = held 2; used = 1 }) (ascii "41" ++ replicate 4094 0) out) ∷
+    example "as in a delivery, which uses up a piece length" (deliveryLent (delivered 80 (queryPidSays 80 new 0x0C 0 .next) emptyStore (2 ∷ 9 ∷ []) (ascii "41")) out)
+    (deliveryStep (2 ∷ 9 ∷ []) (record { answer = piece.Awaited; written = 0; session = held 2; used = 1 }) (ascii "41" ++ replicate 4094 0) out) ∷
     example "a query again, and a `?` for it" (asking .text ∷ again .text ∷ reply (again .next) "?\r\r>" .text ∷ []) (ascii "010C 1\r" ∷ ascii "\r" ∷ ascii "010C 1\r" ∷ []) ∷
     example "repeat after a `?`, and after another reply" (reply (again .next) "?\r\r>" .next .known .repeat ∷ reply (again .next) "NO DATA\r\r>" .next .known .repeat ∷ []) (support.No ∷ support.Yes ∷ []) ∷
     example "what these replies come to" (reply (again .next) "?\r\r>" .answer ∷ reply (again .next) "NO DATA\r\r>" .answer ∷ []) (result sent ∷ result complete ∷ []) ∷

@@ -4,25 +4,23 @@ use mathlib.Core.List.{List, [], _∷_, _++_, map}
 use Prim.Native.Nat.{ℕ, _-_}
 use Prim.Native.String.{String}
 use lib.ListN.{length, replicate}
-use Rattle.wire.specs.Answer.{result, refused}
-use Rattle.wire.specs.Call.{lent}
+use Rattle.wire.specs.Answer.{result, refused, number}
+use Rattle.wire.specs.declared.Refusal.the-variants.{OutOfTurn, PidCount, TooLong, NotAscii, Malformed, SmallBuffer, Disconnected, ReplyTooLong, ReplyNotAscii, LineFull, ByteNotAscii}
 use Rattle.wire.specs.Text.{ascii}
 use Rattle.at_command.specs.Dialect.{atKind, identityOf}
 use Rattle.reply.specs.Shape.{chipReply}
-use Rattle.reply.specs.Answers.{replied}
+use Rattle.reply.specs.Answers.{replied, replyWritten}
 use Rattle.reply.specs.Steps.{replySize}
-use Rattle.reply.specs.Answers as reply
 use Rattle.reply.specs.declared.ReplyAnswer.the-variants as written
 use Rattle.server_session.specs.Session.{Session, freshSession}
 use Rattle.server_session.specs.declared.Phase.{Phase}
 use Rattle.server_session.specs.declared.Phase.the-variants.{Reading, ObdCommand}
-use Rattle.server_session.specs.declared.ByteAnswer.the-variants as byte
 use Rattle.server_session.specs.declared.ServerAnswer.the-variants as answer
 use Rattle.server_session.specs.declared.ServerSession.{ServerSession}
-use Rattle.server_session.specs.Bytes.{byteSays, bytesSay, byteAnswer, byteServed, bytesServed, lentBytes}
-use Rattle.server_session.specs.Replies.{answerSays, replySays, rejectSays, serverAnswer, replyServed}
-use Rattle.exchange.specs.Exchange.{exchanged, exchangeServed}
-use Rattle.exchange.specs.Exchange as exchange
+use Rattle.server_session.specs.Call.{serverLent, serverStep}
+use Rattle.server_session.specs.Bytes.{byteSays, bytesSay}
+use Rattle.server_session.specs.Replies.{answerSays, replySays, rejectSays}
+use Rattle.bench.specs.Exchange.{exchanged}
 use Rattle.cards.specs.Example.{Example, example}
 
 -- a line list: from an unknown ECU, vehicle speed 20
@@ -73,17 +71,16 @@ quiet = "ATE0" ∷ "ATL0" ∷ "ATS0" ∷ "ATSP0" ∷ "ATH1" ∷ []
 
 abbrev pub server : List Example
 server =
-    example "a byte is echoed and stored" (lent (byteSays 8 freshSession 65) (replicate 8 9))
-    (byteServed (record { answer = byte.Taken; written = 1; session = held "" "A" Reading }) (65 ∷ replicate 7 9)) ∷
-    example "a line is echoed, and its command handed out" (lentBytes (bytesSay 16 freshSession (ascii "01 0d\rA")) (replicate 16 9))
-    (bytesServed (record { answer = byte.ObdCommand; taken = 6; written = 6; session = held "" "010D" ObdCommand }) (ascii "01 0d\r" ++ replicate 10 9)) ∷
+    example "a byte is echoed and stored" (serverLent (byteSays 8 freshSession 65) (replicate 8 9))
+    (serverStep (record { answer = answer.Reading; taken = 1; written = 1; session = held "" "A" Reading }) (65 ∷ replicate 7 9)) ∷
+    example "a line is echoed, and its command handed out" (serverLent (bytesSay 16 freshSession (ascii "01 0d\rA")) (replicate 16 9))
+    (serverStep (record { answer = answer.ObdCommand; taken = 6; written = 6; session = held "" "010D" ObdCommand }) (ascii "01 0d\r" ++ replicate 10 9)) ∷
     example "LF is echoed and not stored" (bytesSay 64 freshSession (ascii "A\nT") .text ∷ bytesSay 64 freshSession (ascii "A\nT") .next .line ∷ []) (ascii "A\nT" ∷ ascii "AT" ∷ []) ∷
     example "a byte of 80, room for 7, and a command handed out" (byteSays 64 freshSession 0x80 .answer ∷ byteSays 7 freshSession 65 .answer ∷ byteSays 64 (handed freshSession "010D") 65 .answer ∷ [])
     (refused 11 ∷ refused 6 ∷ refused 1 ∷ []) ∷
-    example "the numbers of a byte" (map byteAnswer (byte.OutOfTurn ∷ byte.SmallBuffer ∷ byte.NotAscii ∷ byte.LineFull ∷ [])) (map refused (1 ∷ 6 ∷ 11 ∷ 10 ∷ [])) ∷
-    example "a reply becomes the last command" (lent (replySays 13 (handed freshSession "010D") speedLine) (replicate 14 9))
-    (replyServed (record { answer = answer.Sent; written = 13; session = held "010D" "" Reading }) (ended "41 0D 20" ++ (9 ∷ []))) ∷
-    example "its 13 bytes in room for 12" (replySays 12 (handed freshSession "010D") speedLine .answer) (serverAnswer answer.SmallBuffer) ∷
+    example "a reply becomes the last command" (serverLent (replySays 13 (handed freshSession "010D") speedLine) (replicate 14 9))
+    (serverStep (record { answer = answer.Reading; taken = 0; written = 13; session = held "010D" "" Reading }) (ended "41 0D 20" ++ (9 ∷ []))) ∷
+    example "its 13 bytes in room for 12" (replySays 12 (handed freshSession "010D") speedLine .answer) (refused 6) ∷
     example "then CR hands it out again" (handed answered "" .phase ∷ []) (ObdCommand ∷ []) ∷
     example "as it was" (handed answered "" .line) (ascii "010D") ∷
     example "no lines" (replySays 64 (handed answered "010C") [] .text) (ended "NO DATA") ∷
@@ -94,11 +91,13 @@ server =
     (rejectSays 64 freshSession [] .answer ∷ rejectSays 99 (handed answered "010C") (replicate 65 65) .answer ∷
     rejectSays 99 (handed answered "010C") (0x80 ∷ []) .answer ∷ rejectSays 5 (handed answered "010C") (ascii "?") .answer ∷ [])
     (refused 1 ∷ refused 3 ∷ refused 4 ∷ refused 6 ∷ []) ∷
-    example "the numbers of an answer" (map serverAnswer (answer.OutOfTurn ∷ answer.TooLong ∷ answer.NotAscii ∷ answer.Malformed ∷ answer.SmallBuffer ∷ [])) (map refused (1 ∷ 3 ∷ 4 ∷ 5 ∷ 6 ∷ [])) ∷
+    example "the numbers of document 01"
+    (map number (OutOfTurn ∷ PidCount ∷ TooLong ∷ NotAscii ∷ Malformed ∷ SmallBuffer ∷ Disconnected ∷ ReplyTooLong ∷ ReplyNotAscii ∷ LineFull ∷ ByteNotAscii ∷ []))
+    (1 ∷ 2 ∷ 3 ∷ 4 ∷ 5 ∷ 6 ∷ 7 ∷ 8 ∷ 9 ∷ 10 ∷ 11 ∷ []) ∷
     example "the size of a reply" (replySize true true false speedLine ∷ replySize true true false (0 ∷ []) ∷ []) (result 13 ∷ refused 5 ∷ []) ∷
-    example "a reply in 14 bytes" (replied true true false speedLine (replicate 14 9)) (reply.lent (written.Written 13) (ended "41 0D 20" ++ (9 ∷ []))) ∷
+    example "a reply in 14 bytes" (replied true true false speedLine (replicate 14 9)) (replyWritten (written.Written 13) (ended "41 0D 20" ++ (9 ∷ []))) ∷
     example "a reply in 12 bytes, and of a malformed list" (replied true true false speedLine (replicate 12 9) ∷ replied true true false (0 ∷ []) (9 ∷ []) ∷ [])
-    (reply.lent written.SmallBuffer (replicate 12 9) ∷ reply.lent written.Malformed (9 ∷ []) ∷ []) ∷
+    (replyWritten (written.Refused SmallBuffer) (replicate 12 9) ∷ replyWritten (written.Refused Malformed) (9 ∷ []) ∷ []) ∷
     example "the chip's replies, with linefeeds off" (chipReply false (ascii "7E804410C1AF8" ∷ ascii "7E904410C1AF8" ∷ [])) (ascii "7E804410C1AF8\r7E904410C1AF8\r\r>") ∷
     example "AT answers after the echo" (map (atSends freshSession) ("ATRV" ∷ "ATDP" ∷ "ATDPN" ∷ "ATI" ∷ "AT@1" ∷ "at st 96" ∷ "AT" ∷ "ATDPX" ∷ []))
     (ended "ATRV\r12.6V" ∷ ended "ATDP\rAUTO, ISO 15765-4 (CAN 11/500)" ∷ ended "ATDPN\rA6" ∷ ended "ATI\rELM327 v1.5" ∷ ended "AT@1\rELM327" ∷ ended "at st 96\rOK" ∷ ended "AT\r?" ∷
@@ -113,8 +112,7 @@ server =
     answerSays 48 (handed freshSession "ATRV") (0x80 ∷ []) [] .answer ∷ answerSays 47 (handed freshSession "ATRV") [] [] .answer ∷ [])
     (refused 1 ∷ refused 3 ∷ refused 4 ∷ refused 6 ∷ []) ∷
     example "the identity strings of ATI and AT@1" (map (λ (c : List ℕ). identityOf (atKind c) (ascii "ELM327 v1.5") (ascii "ELM327")) (ascii "ATI" ∷ ascii "AT@1" ∷ [])) (ascii "ELM327 v1.5" ∷ ascii "ELM327" ∷ []) ∷
-    example "an exchange" (exchange.lent (exchanged 60 freshSession (ascii "AT@1\r") speedLine) (replicate 20 9))
-    (exchangeServed (record { written = 16; session = held "" "" Reading }) (ended "AT@1\rELM327" ++ replicate 4 9)) ∷
+    example "an exchange" (exchanged 60 freshSession (ascii "AT@1\r") speedLine) (record { next = freshSession; text = ended "AT@1\rELM327"; handed = [] }) ∷
     example "what an exchange sends for a query" (exchanged 60 freshSession (ascii "010D\r") speedLine .text) (ended "010D\r41 0D 20") ∷
     example "and hands out" (exchanged 60 freshSession (ascii "010D\r") speedLine .handed) (ascii "010D" ∷ []) ∷
     []

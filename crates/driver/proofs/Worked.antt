@@ -4,6 +4,7 @@ use mathlib.Core.Bool.{true}
 use mathlib.Core.List.{List, [], _∷_, _++_}
 use Prim.Native.Nat.{ℕ}
 use lib.ListN.{replicate}
+use Rattle.wire.specs.Answer.{unless}
 use Rattle.wire.specs.Text.{ascii, has, high, isSpace, raised}
 use Rattle.hex.specs.Digits.{hexDigit}
 use Rattle.hex.specs.Read.{digit, leading}
@@ -15,7 +16,7 @@ use Rattle.value.specs.Values.{valueBytes}
 use Rattle.at_command.specs.Dialect.{atKind}
 use Rattle.reply.specs.Reply.{lineText, replyText}
 use Rattle.server_session.specs.Session.{freshSession}
-use Rattle.server_session.specs.Bytes.{canonical, byteNumber, byteTaken, byteSays, bytesSay}
+use Rattle.server_session.specs.Bytes.{canonical, byteTaken, byteSays, bytesSay}
 use Rattle.server_session.specs.Replies.{answerSays, replySays}
 use Rattle.query.specs.Query.{queryText}
 use Rattle.reply_lines.specs.Lines.{textLines}
@@ -41,7 +42,7 @@ serverLog =
     ((64 ∷ 0 ∷ 0 ∷ 13 ∷ 0 ∷ ascii "41 0D 20\r\n\r\n>") ++ ((1 ∷ 1 ∷ 1 ∷ 0 ∷ 0 ∷ 4 ∷ 0 ∷ ascii "010D") ++ (0 ∷ 0 ∷ [])))))
 
 server-log : loggedOf (serverRun serverCalls (serverAt freshSession 0 (replicate 64 9) (replicate 65 9))) ≡ loggedAs 64 (ascii "41 0D 20\r\n\r\n>" ++ replicate 51 9) (serverLog ++ (9 ∷ []))
-unfolding high isSpace raised hexDigit lineList atKind lineText replyText canonical byteNumber byteTaken byteSays bytesSay answerSays replySays calls
+unfolding high isSpace raised hexDigit lineList atKind lineText replyText canonical unless byteTaken byteSays bytesSay answerSays replySays calls
 server-log = refl
 
 -- 0C and 0D asked of one ECU, their reply in one piece, the finish, and the state with 0C and E0

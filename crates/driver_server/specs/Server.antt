@@ -5,27 +5,23 @@ use Prim.Native.Nat.{ℕ}
 use lib.Dec.{eqb}
 use lib.ListN.{length, getD}
 use Rattle.wire.specs.Answer.{Answer, result, refused}
-use Rattle.wire.specs.Call.{Served, lent}
 use Rattle.wire.specs.Text.{ascii}
 use Rattle.server_session.specs.declared.Phase.{Phase}
 use Rattle.server_session.specs.declared.Phase.the-variants as phase
 use Rattle.server_session.specs.Session.{Session, session}
-use Rattle.server_session.specs.Bytes.{byteSays, bytesSay, ServedBytes, lentBytes}
+use Rattle.server_session.specs.Call.{ServerServed, serverLent}
+use Rattle.server_session.specs.Bytes.{byteSays, bytesSay}
 use Rattle.server_session.specs.Replies.{answerSays, replySays, rejectSays}
 use Rattle.driver_server.specs.declared.ServerTurn.{ServerTurn}
 use Rattle.driver_log.specs.Log.{textEntry, flagByte, Turn, noted, answered}
 use Rattle.driver_log.specs.Script.{calls}
 
 -- a code for each answer: a number of document 01 as itself, a result as 64 and more
-abbrev pub byteCode : Answer Phase → ℕ
-byteCode (result phase.Reading) = 64
-byteCode (result phase.AtCommand) = 65
-byteCode (result phase.ObdCommand) = 66
-byteCode (refused n) = n
-
-abbrev pub sentCode : Answer (Unit {0}) → ℕ
-sentCode (result u) = 64
-sentCode (refused n) = n
+abbrev pub answerCode : Answer Phase → ℕ
+answerCode (result phase.Reading) = 64
+answerCode (result phase.AtCommand) = 65
+answerCode (result phase.ObdCommand) = 66
+answerCode (refused n) = n
 
 abbrev pub phaseCode : Phase → ℕ
 phaseCode phase.Reading = 0
@@ -33,38 +29,33 @@ phaseCode phase.AtCommand = 1
 phaseCode phase.ObdCommand = 2
 
 -- a session's state: the four settings, the phase, the last command, and the line as far as it is read or the command handed out
-abbrev pub stateEntry : Session → List ℕ
-stateEntry s =
+abbrev pub serverEntry : Session → List ℕ
+serverEntry s =
     (flagByte (s .state .echo) ∷ flagByte (s .state .linefeeds) ∷ flagByte (s .state .spaces) ∷ flagByte (s .state .headers) ∷ phaseCode (s .phase) ∷ []) ++
     (textEntry (s .state .last) ++ textEntry (s .line))
 
--- a call as the host sees it is noted
-abbrev pub byteNoted : Turn Session → Served Session Phase → Turn Session
-byteNoted t r = answered (t .at) (t .log) (byteCode (r .answer)) 0 (r .written) (r .next) (r .out)
-
-abbrev pub bytesNoted : Turn Session → ServedBytes → Turn Session
-bytesNoted t r = answered (t .at) (t .log) (byteCode (r .answer)) (r .taken) (r .written) (r .next) (r .out)
-
-abbrev pub sentNoted : Turn Session → Served Session (Unit {0}) → Turn Session
-sentNoted t r = answered (t .at) (t .log) (sentCode (r .answer)) 0 (r .written) (r .next) (r .out)
+-- a call as the host sees it is noted, with a number of bytes taken
+abbrev pub callNoted : Turn Session → ℕ → ServerServed → Turn Session
+callNoted t taken r = answered (t .at) (t .log) (answerCode (r .answer)) taken (r .written) (r .next) (r .out)
 
 -- the calls that are made more rarely: 5 is `reject`, 6 `answer` with the argument as the identity string for ATI; any other shows the state
-abbrev pub rareCall : Turn Session → ℕ → List ℕ → Turn Session
-rareCall t kind arg =
+abbrev pub rareServerCall : Turn Session → ℕ → List ℕ → Turn Session
+rareServerCall t kind arg =
     let s = t .session in
     let out = t .out in
-    cond (eqb kind 5) (sentNoted t (lent (rejectSays (length out) s arg) out))
-    (cond (eqb kind 6) (sentNoted t (lent (answerSays (length out) s arg (ascii "ELM327")) out)) (noted s (t .at) out (t .log) (stateEntry s)))
+    cond (eqb kind 5) (callNoted t 0 (serverLent (rejectSays (length out) s arg) out))
+    (cond (eqb kind 6) (callNoted t 0 (serverLent (answerSays (length out) s arg (ascii "ELM327")) out)) (noted s (t .at) out (t .log) (serverEntry s)))
 
 -- a call by its kind: 1 is `byte` with the argument's first byte, 2 `bytes`, 3 `reply`, 4 `answer` with the argument as the identity string for AT@1
 abbrev pub serverCall : Turn Session → ℕ → List ℕ → Turn Session
 serverCall t kind arg =
     let s = t .session in
     let out = t .out in
-    cond (eqb kind 1) (byteNoted t (lent (byteSays (length out) s (getD arg 0 0)) out))
-    (cond (eqb kind 2) (bytesNoted t (lentBytes (bytesSay (length out) s arg) out))
-    (cond (eqb kind 3) (sentNoted t (lent (replySays (length out) s arg) out))
-    (cond (eqb kind 4) (sentNoted t (lent (answerSays (length out) s (ascii "ELM327 v1.5") arg) out)) (rareCall t kind arg))))
+    let heard = bytesSay (length out) s arg in
+    cond (eqb kind 1) (callNoted t 0 (serverLent (byteSays (length out) s (getD arg 0 0)) out))
+    (cond (eqb kind 2) (callNoted t (heard .taken) (serverLent heard out))
+    (cond (eqb kind 3) (callNoted t 0 (serverLent (replySays (length out) s arg) out))
+    (cond (eqb kind 4) (callNoted t 0 (serverLent (answerSays (length out) s (ascii "ELM327 v1.5") arg) out)) (rareServerCall t kind arg))))
 
 abbrev pub serverTurn : ServerTurn → List ℕ → List ℕ → Turn Session
 serverTurn r out log = record { session = session (r .session); at = r .at; out = out; log = log }

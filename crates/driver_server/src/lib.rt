@@ -1,6 +1,5 @@
 // Runs scripts of calls on a server session, and logs what each call answered.
 use client_state::ClientState;
-use server_session::ByteAnswer;
 use server_session::Phase;
 use server_session::ServerAnswer;
 use server_session::ServerSession;
@@ -8,11 +7,10 @@ ghost use mathlib.Core.Path.{_≡_};
 ghost use Rattle.wire.specs.Put.{Put};
 ghost use Rattle.client_state.specs.Settings.{settings};
 ghost use Rattle.server_session.specs.Session.{session, freshSession};
-ghost use Rattle.server_session.specs.Bytes.{byteAnswer};
-ghost use Rattle.server_session.specs.Replies.{serverAnswer};
+ghost use Rattle.server_session.specs.Call.{serverAnswer};
 ghost use Rattle.driver_log.specs.Log.{textEntry, loggedOf, loggedAs};
 ghost use Rattle.driver_log.specs.Script.{calls, rounds};
-ghost use Rattle.driver_server.specs.Server.{byteCode, sentCode, phaseCode, stateEntry, rareCall, serverCall, serverTurn, serverAt, serverRun};
+ghost use Rattle.driver_server.specs.Server.{answerCode, phaseCode, serverEntry, rareServerCall, serverCall, serverTurn, serverAt, serverRun};
 
 // A session after some calls of a script, and the position in the log after their entries.
 struct ServerTurn {
@@ -21,30 +19,14 @@ struct ServerTurn {
 }
 
 // The codes of answers: a number of document 01 as itself, and a result as 64 or more.
-fn byte_code(answer: ByteAnswer) -> u8
-    ensures { λ r. ⌜ r ≡ byteCode (byteAnswer answer) ⌝ }
+fn answer_code(answer: ServerAnswer) -> u8
+    ensures { λ r. ⌜ r ≡ answerCode (serverAnswer answer) ⌝ }
 {
     match answer {
-        ByteAnswer::Taken => 64,
-        ByteAnswer::AtCommand => 65,
-        ByteAnswer::ObdCommand => 66,
-        ByteAnswer::OutOfTurn => 1,
-        ByteAnswer::SmallBuffer => 6,
-        ByteAnswer::NotAscii => 11,
-        ByteAnswer::LineFull => 10,
-    }
-}
-
-fn sent_code(answer: ServerAnswer) -> u8
-    ensures { λ r. ⌜ r ≡ sentCode (serverAnswer answer) ⌝ }
-{
-    match answer {
-        ServerAnswer::Sent => 64,
-        ServerAnswer::OutOfTurn => 1,
-        ServerAnswer::TooLong => 3,
-        ServerAnswer::NotAscii => 4,
-        ServerAnswer::Malformed => 5,
-        ServerAnswer::SmallBuffer => 6,
+        ServerAnswer::Reading => 64,
+        ServerAnswer::AtCommand => 65,
+        ServerAnswer::ObdCommand => 66,
+        ServerAnswer::Refused(refusal) => wire::number(refusal),
     }
 }
 
@@ -76,7 +58,7 @@ fn put_line(server: ServerSession, log: &mut [u8], at: usize) -> usize
 
 // The entry of a session's state: the four settings, the phase, the last command, and the line as far as it is read or the command handed out.
 fn put_state(server: ServerSession, log: &mut [u8], at: usize) -> usize
-    ensures { λ r. ⌜ Put (now (log .entry)) at (stateEntry (session server)) r (now (log .exit)) ⌝ }
+    ensures { λ r. ⌜ Put (now (log .entry)) at (serverEntry (session server)) r (now (log .exit)) ⌝ }
 {
     let state = server.state;
     let turn = server.turn;
@@ -102,7 +84,7 @@ fn rare(
     log: &mut [u8],
     at: usize,
 ) -> ServerTurn
-    ensures { λ r. ⌜ serverTurn r (now (out .exit)) (now (log .exit)) ≡ rareCall (serverAt (session server) at (now (out .entry)) (now (log .entry))) kind (now (arg .entry)) ⌝ }
+    ensures { λ r. ⌜ serverTurn r (now (out .exit)) (now (log .exit)) ≡ rareServerCall (serverAt (session server) at (now (out .entry)) (now (log .entry))) kind (now (arg .entry)) ⌝ }
 {
     match kind {
         5 => {
@@ -111,7 +93,7 @@ fn rare(
             let next = step.session;
             ServerTurn {
                 session: next,
-                at: driver_log::put_call(log, at, sent_code(answer), 0, out, step.written),
+                at: driver_log::put_call(log, at, answer_code(answer), 0, out, step.written),
             }
         }
         6 => {
@@ -120,7 +102,7 @@ fn rare(
             let next = step.session;
             ServerTurn {
                 session: next,
-                at: driver_log::put_call(log, at, sent_code(answer), 0, out, step.written),
+                at: driver_log::put_call(log, at, answer_code(answer), 0, out, step.written),
             }
         }
         _ => ServerTurn {
@@ -147,7 +129,7 @@ fn run(server: ServerSession, script: &[u8], out: &mut [u8], log: &mut [u8]) -> 
                 let step = server.byte(driver_log::byte_of(&script[start..end], 0), out);
                 let answer = step.answer;
                 server = step.session;
-                at = driver_log::put_call(log, at, byte_code(answer), 0, out, step.written);
+                at = driver_log::put_call(log, at, answer_code(answer), 0, out, step.written);
             }
             2 => {
                 let step = server.bytes(&script[start..end], out);
@@ -156,7 +138,7 @@ fn run(server: ServerSession, script: &[u8], out: &mut [u8], log: &mut [u8]) -> 
                 at = driver_log::put_call(
                     log,
                     at,
-                    byte_code(answer),
+                    answer_code(answer),
                     step.taken,
                     out,
                     step.written,
@@ -166,13 +148,13 @@ fn run(server: ServerSession, script: &[u8], out: &mut [u8], log: &mut [u8]) -> 
                 let step = server.reply(&script[start..end], out);
                 let answer = step.answer;
                 server = step.session;
-                at = driver_log::put_call(log, at, sent_code(answer), 0, out, step.written);
+                at = driver_log::put_call(log, at, answer_code(answer), 0, out, step.written);
             }
             4 => {
                 let step = server.answer(b"ELM327 v1.5", &script[start..end], out);
                 let answer = step.answer;
                 server = step.session;
-                at = driver_log::put_call(log, at, sent_code(answer), 0, out, step.written);
+                at = driver_log::put_call(log, at, answer_code(answer), 0, out, step.written);
             }
             _ => {
                 let turn = rare(server, kind, &script[start..end], out, log, at);

@@ -1,7 +1,7 @@
 -- Document 01's worked example of what `hire` prints of a script, and a malformed one; a run of two parts that a number ended.
 use mathlib.Core.Path.{_≡_, refl}
 use mathlib.Core.List.{[], _∷_}
-use Rattle.wire.specs.Answer.{refused}
+use Rattle.wire.specs.Answer.{refused, unless}
 use Rattle.wire.specs.Text.{ascii, has, high, isSpace, raised}
 use Rattle.hex.specs.Digits.{hexDigit}
 use Rattle.hex.specs.Read.{digit, leading}
@@ -12,7 +12,7 @@ use Rattle.line_list.specs.Lines.{lineList}
 use Rattle.value.specs.Values.{valueBytes}
 use Rattle.at_command.specs.Dialect.{atKind}
 use Rattle.reply.specs.Reply.{lineText, replyText}
-use Rattle.server_session.specs.Bytes.{canonical, byteNumber, byteTaken, byteSays, bytesSay}
+use Rattle.server_session.specs.Bytes.{canonical, byteTaken, byteSays, bytesSay}
 use Rattle.server_session.specs.Replies.{answerSays, replySays}
 use Rattle.query.specs.Query.{queryText}
 use Rattle.reply_lines.specs.Lines.{textLines}
@@ -23,14 +23,14 @@ use Rattle.client_session.specs.Start.{initSays, queryPidSays, queryPidsSays}
 use Rattle.client_session.specs.Piece.{replyTakes, pieceSays}
 use Rattle.client_session.specs.Finish.{finishSays}
 use Rattle.script.specs.Script.{script}
-use Rattle.exchange.specs.Exchange.{exchanged}
-use Rattle.exchange.specs.Deliver.{pieces, delivered}
+use Rattle.bench.specs.Exchange.{exchanged}
+use Rattle.bench.specs.Deliver.{pieces, delivered}
 use Rattle.bench.specs.Run.{initialised, part, runSays}
 use Rattle.hire_text.specs.Hire.{refusedLine, runText, hireText, hirePrints}
 
 -- "Input bytes 01 0C 02 01 00 04 41 0C 1A F8 .. print `01 0C E9 0F 04 41 0C 1A F8`"
 example : hirePrints (0x01 ∷ 0x0C ∷ 0x02 ∷ 0x01 ∷ 0x00 ∷ 0x04 ∷ 0x41 ∷ 0x0C ∷ 0x1A ∷ 0xF8 ∷ []) ≡ ascii "01 0C E9 0F 04 41 0C 1A F8\n"
-unfolding has high isSpace raised hexDigit digit leading j1979 mode01Lengths groupBytes lineList valueBytes atKind lineText replyText canonical byteNumber byteTaken byteSays bytesSay answerSays replySays queryText textLines textLine replyLines walked answerOrder learnLength initSays queryPidSays queryPidsSays replyTakes pieceSays finishSays script exchanged pieces delivered initialised part runSays hireText
+unfolding has high isSpace raised hexDigit digit leading j1979 mode01Lengths groupBytes lineList valueBytes atKind lineText replyText canonical unless byteTaken byteSays bytesSay answerSays replySays queryText textLines textLine replyLines walked answerOrder learnLength initSays queryPidSays queryPidsSays replyTakes pieceSays finishSays script exchanged pieces delivered initialised part runSays hireText
 example = refl
 
 -- "a malformed or too long script prints only that"

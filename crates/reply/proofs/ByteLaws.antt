@@ -98,7 +98,8 @@ module _ (f : ℕ → Bool) where
     pub body-none : (linefeeds spaces headers : Bool) (ls : List Line) → any f (replyBody linefeeds spaces headers ls) ≡ false
     body-none linefeeds spaces headers ls =
         any-none f (replyBody linefeeds spaces headers ls)
-        (body-all (λ c. f c ≡ false) (λ d h. unless (f (hexDigit d)) (at-below 16 (λ d. not (f (hexDigit d))) digits d h)) spaces (space-none spaces) linefeeds (ending-none linefeeds) (each .1 .1 .1) headers ls)
+        (body-all (λ c. f c ≡ false) (λ d h. unless (f (hexDigit d)) (at-below 16 (λ d. not (f (hexDigit d))) digits d h)) spaces (space-none spaces) linefeeds (ending-none linefeeds)
+        (each .1 .1 .1) headers ls)
 
 -- the prompt stands at the end alone
 pub body-prompt : (linefeeds spaces headers : Bool) (ls : List Line) → has 62 (replyBody linefeeds spaces headers ls) ≡ false

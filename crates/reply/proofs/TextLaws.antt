@@ -65,7 +65,8 @@ module _ (spaces : Bool) (s out₀ : List ℕ) (at₀ : ℕ) where
   unfolding Further
   further-end out i at h p = let q = put-nil (rw (drop-of-length-le s h) at p) in record { next = sym (q .0); bytes = sym (q .1) }
 
-  further-next : (out o₁ : List ℕ) (i : ℕ) {at a₁ : ℕ} → i < length s → Put out at (spaceIf spaces ++ hexByte (getD s i 0)) a₁ o₁ → Further spaces s out₀ at₀ i out at → Further spaces s out₀ at₀ (i + 1) o₁ a₁
+  further-next : (out o₁ : List ℕ) (i : ℕ) {at a₁ : ℕ} → i < length s → Put out at (spaceIf spaces ++ hexByte (getD s i 0)) a₁ o₁ → Further spaces s out₀ at₀ i out at →
+      Further spaces s out₀ at₀ (i + 1) o₁ a₁
   unfolding Further
   further-next out o₁ i h q p =
       rw add-one
@@ -93,7 +94,8 @@ module _ (s out₀ : List ℕ) (at₀ i : ℕ) (out : List ℕ) (at : ℕ) (h : 
       let two : at + 2 ≡ suc (suc at) = omega arith in
       let high : getD s i 0 / 16 % 16 ≡ getD s i 0 / 16 = omega arith in
       further-next true s out₀ at₀ out _ i h
-      (rw (digit-listed (getD s i 0 / 16) (omega arith), digit-listed (getD s i 0 % 16) (omega arith), two, add-one, high) (stored out at (32 ∷ hexDigit (getD s i 0 / 16) ∷ hexDigit (getD s i 0 % 16) ∷ []) k))
+      (rw (digit-listed (getD s i 0 / 16) (omega arith), digit-listed (getD s i 0 % 16) (omega arith), two, add-one, high)
+      (stored out at (32 ∷ hexDigit (getD s i 0 / 16) ∷ hexDigit (getD s i 0 % 16) ∷ []) k))
 
 -- only an empty list has no lines
 pub no-lines : (n : ℕ) (s rest : List ℕ) → readAllLines n s ≡ got [] rest → length s ≡ 0

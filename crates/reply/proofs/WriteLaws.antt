@@ -14,7 +14,7 @@ use Rattle.line_list.specs.Lines.{Line, line, readLine, readAllLines, lineList}
 use Rattle.line_list.proofs.StepLaws.{LineHere, checked-end, checked-line, checked-none}
 use Rattle.reply.specs.Shape.{chipReply}
 use Rattle.reply.specs.Reply.{lineText}
-use Rattle.reply.specs.Steps.{Room}
+use Rattle.reply.specs.Steps.{LinesFit}
 use Rattle.reply.proofs.TextLaws.{room-after}
 
 -- what is sent for some lines and nothing else
@@ -31,7 +31,7 @@ module _ (linefeeds spaces headers : Bool) (s : List ℕ) where
     pub room : at + length (linesText linefeeds spaces headers lines) ≤ length out
     pub puts : Put out at (linesText linefeeds spaces headers lines) r left
 
-  pub left-start : (out : List ℕ) (cursor : ℕ) → Room linefeeds spaces headers s out → cursor ≡ 0 → (ls : List Line) (rest : List ℕ) → lineList s ≡ got ls rest →
+  pub left-start : (out : List ℕ) (cursor : ℕ) → LinesFit linefeeds spaces headers s out → cursor ≡ 0 → (ls : List Line) (rest : List ℕ) → lineList s ≡ got ls rest →
       Left out cursor 0 (0 + min (length (linesText linefeeds spaces headers ls)) (length out - 0)) (sets out 0 (linesText linefeeds spaces headers ls))
   unfolding lineList
   left-start out cursor k e ls rest q =

@@ -1,40 +1,36 @@
--- The cases of the answers, and what writing a reply does to the lent buffer: 5 for a malformed line list, then 6 exactly when the text is longer than the
--- buffer, which then is as it was.
-use mathlib.Core.Bool.{Bool, cond}
-use mathlib.Core.List.{List}
+-- What writing a reply to a line list answers and does to the lent buffer. Document 01: 5 for "malformed lines", then 6 "exactly when the output is longer than
+-- the buffer", which then is as it was.
+use mathlib.Core.Bool.{Bool}
+use mathlib.Core.List.{List, [], _∷_}
 use Prim.Native.Nat.{ℕ}
 use lib.Dec.{ltb}
 use lib.ListN.{length}
 use lib.Seq.{sets}
-use Rattle.wire.specs.Answer.{Answer, result, refused}
-use Rattle.group.specs.Group.{Read, got, malformed}
-use Rattle.line_list.specs.Lines.{Line, lineList}
+use Rattle.wire.specs.Answer.{Answer, result, refused, number, unless}
+use Rattle.group.specs.Group.{isMalformed, listOf}
+use Rattle.line_list.specs.Lines.{lineList}
 use Rattle.reply.specs.Reply.{replyText}
 use Rattle.reply.specs.declared.ReplyAnswer.{ReplyAnswer}
-use Rattle.reply.specs.declared.ReplyAnswer.the-variants.{Written, Malformed, SmallBuffer}
+use Rattle.reply.specs.declared.ReplyAnswer.the-variants.{Written, Refused}
 
--- the number of bytes written, 5 or 6
+-- the number of bytes written, or 5 or 6
 abbrev pub replyAnswer : ReplyAnswer → Answer ℕ
 replyAnswer (Written n) = result n
-replyAnswer Malformed = refused 5
-replyAnswer SmallBuffer = refused 6
+replyAnswer (Refused r) = refused (number r)
 
 -- An answer, and what the lent buffer then holds.
-pub record Lent : Type 0 where
+pub record ReplyWritten : Type 0 where
   pub answer : Answer ℕ
   pub out : List ℕ
 
-abbrev pub lent : ReplyAnswer → List ℕ → Lent
-lent answer out = record { answer = replyAnswer answer; out = out }
+abbrev pub replyWritten : ReplyAnswer → List ℕ → ReplyWritten
+replyWritten answer out = record { answer = replyAnswer answer; out = out }
 
--- a text at the front of a buffer, or 6
-abbrev pub fitted : List ℕ → List ℕ → Lent
-fitted text out = cond (ltb (length out) (length text)) (record { answer = refused 6; out = out }) (record { answer = result (length text); out = sets out 0 text })
-
-abbrev pub repliedWith : Bool → Bool → Bool → Read (List Line) → List ℕ → Lent
-repliedWith linefeeds spaces headers malformed out = record { answer = refused 5; out = out }
-repliedWith linefeeds spaces headers (got ls rest) out = fitted (replyText linefeeds spaces headers ls) out
-
--- the reply of a line list
-unfoldable pub replied : Bool → Bool → Bool → List ℕ → List ℕ → Lent
-replied linefeeds spaces headers list out = repliedWith linefeeds spaces headers (lineList list) out
+-- the reply to a line list at the front of a buffer
+unfoldable pub replied : Bool → Bool → Bool → List ℕ → List ℕ → ReplyWritten
+replied linefeeds spaces headers list out =
+    let text = replyText linefeeds spaces headers (listOf (lineList list)) in
+    unless (
+    (isMalformed (lineList list), 5) ∷
+    (ltb (length out) (length text), 6) ∷ [])
+    (λ n. record { answer = refused n; out = out }) (record { answer = result (length text); out = sets out 0 text })

@@ -4,7 +4,7 @@ use mathlib.Core.Bool.{Bool, cond}
 use mathlib.Core.List.{List, map}
 use Prim.Native.Nat.{ℕ, _+_, _-_, _*_, _≤_}
 use lib.ListN.{length}
-use Rattle.wire.specs.Answer.{Answer, result, refused}
+use Rattle.wire.specs.Answer.{Answer, result, refused, number}
 use Rattle.group.specs.Group.{Read, got, malformed}
 use Rattle.line_list.specs.Lines.{Line, lineList}
 use Rattle.reply.specs.Shape.{chipReply}
@@ -22,7 +22,7 @@ dataSize spaces n = (2 + length (spaceIf spaces)) * n - length (spaceIf spaces)
 -- the number of bytes that the reply has, by which 6 is decided, or 5
 abbrev pub sizeAnswer : ReplySize → Answer ℕ
 sizeAnswer (size.Size n) = result n
-sizeAnswer size.Malformed = refused 5
+sizeAnswer (size.Refused r) = refused (number r)
 
 abbrev pub sizeWith : Bool → Bool → Bool → Read (List Line) → Answer ℕ
 sizeWith linefeeds spaces headers malformed = refused 5
@@ -33,7 +33,7 @@ unfoldable pub replySize : Bool → Bool → Bool → List ℕ → Answer ℕ
 replySize linefeeds spaces headers list = sizeWith linefeeds spaces headers (lineList list)
 
 -- A list is well formed, and a buffer has room for its lines and the prompt.
-pub record Room (linefeeds spaces headers : Bool) (list out : List ℕ) : Type 0 where
+pub record LinesFit (linefeeds spaces headers : Bool) (list out : List ℕ) : Type 0 where
   pub lines : List Line
   pub rest : List ℕ
   pub reads : lineList list ≡ got lines rest

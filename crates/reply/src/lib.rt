@@ -1,6 +1,7 @@
 // What the server sends as a reply: the chip's shape, and line lists written in it (reply, push_header and push_hex of the Rust's server_session.rs).
 use line_list::LineCursor;
 use line_list::LineStep;
+use wire::Refusal;
 ghost use mathlib.Core.Path.{_≡_};
 ghost use mathlib.Core.Bool.{true, false, cond};
 ghost use mathlib.Core.List.{List, [], _∷_, _++_, map};
@@ -13,23 +14,21 @@ ghost use Rattle.client_state.specs.Settings.{lineEnding};
 ghost use Rattle.line_list.specs.Lines.{Line, line, lineList};
 ghost use Rattle.reply.specs.Shape.{chipReply};
 ghost use Rattle.reply.specs.Reply.{ecuId, spaceIf, furtherHex, lineText};
-ghost use Rattle.reply.specs.Answers.{lent, replied};
-ghost use Rattle.reply.specs.Steps.{headerSize, dataSize, sizeAnswer, replySize, Room};
+ghost use Rattle.reply.specs.Answers.{replyWritten, replied};
+ghost use Rattle.reply.specs.Steps.{headerSize, dataSize, sizeAnswer, replySize, LinesFit};
 
 pub enum ReplyAnswer {
     // So many bytes stand at the front of out.
     Written(usize),
-    // 5: not a line list.
-    Malformed,
-    // 6: the reply is longer than out.
-    SmallBuffer,
+    // 5: not a line list; 6: the reply is longer than out.
+    Refused(Refusal),
 }
 
 enum ReplySize {
     // The reply has so many bytes.
     Size(usize),
     // 5: not a line list.
-    Malformed,
+    Refused(Refusal),
 }
 
 // What follows the last line of a reply: an empty line and the prompt.
@@ -213,7 +212,7 @@ fn reply_size(list: &[u8], linefeeds: bool, spaces: bool, headers: bool) -> Repl
                 next,
             } => {
                 if lines == 64 {
-                    return ReplySize::Malformed;
+                    return ReplySize::Refused(Refusal::Malformed);
                 }
                 let end = next.at;
                 size = size + line_size(end - start, linefeeds, spaces, headers);
@@ -221,14 +220,14 @@ fn reply_size(list: &[u8], linefeeds: bool, spaces: bool, headers: bool) -> Repl
                 lines += 1;
             }
             LineStep::End => return ReplySize::Size(size),
-            LineStep::Malformed => return ReplySize::Malformed,
+            LineStep::Malformed => return ReplySize::Refused(Refusal::Malformed),
         }
     }
 }
 
 // The lines of a well-formed list, then the prompt, from the start of out on, where there is room for them.
 fn write_lines(list: &[u8], linefeeds: bool, spaces: bool, headers: bool, out: &mut [u8]) -> usize
-    requires { ⌜ Room linefeeds spaces headers (now list) (now out) ⌝ }
+    requires { ⌜ LinesFit linefeeds spaces headers (now list) (now out) ⌝ }
     ensures { λ r. ⌜ ((ls : List Line) (rest : List ℕ) → lineList (now (list .entry)) ≡ got ls rest → Put (now (out .entry)) 0 (chipReply linefeeds (map (lineText spaces headers) ls)) r (now (out .exit))) ⌝ }
 {
     let mut cursor = LineCursor { at: 0 };
@@ -256,16 +255,18 @@ pub fn write_reply(
     headers: bool,
     out: &mut [u8],
 ) -> ReplyAnswer
-    ensures { λ r. ⌜ lent r (now (out .exit)) ≡ replied linefeeds spaces headers (now (list .entry)) (now (out .entry)) ⌝ }
+    ensures { λ r. ⌜ replyWritten r (now (out .exit)) ≡ replied linefeeds spaces headers (now (list .entry)) (now (out .entry)) ⌝ }
 {
-    let ReplySize::Size(size) = reply_size(list, linefeeds, spaces, headers) else {
-        return ReplyAnswer::Malformed;
-    };
-    if out.len() < size {
-        return ReplyAnswer::SmallBuffer;
+    match reply_size(list, linefeeds, spaces, headers) {
+        ReplySize::Refused(refusal) => ReplyAnswer::Refused(refusal),
+        ReplySize::Size(size) => {
+            if out.len() < size {
+                return ReplyAnswer::Refused(Refusal::SmallBuffer);
+            }
+            if 0 < list.len() {
+                return ReplyAnswer::Written(write_lines(list, linefeeds, spaces, headers, out));
+            }
+            ReplyAnswer::Written(put_text_reply(out, 0, b"NO DATA", linefeeds))
+        }
     }
-    if 0 < list.len() {
-        return ReplyAnswer::Written(write_lines(list, linefeeds, spaces, headers, out));
-    }
-    ReplyAnswer::Written(put_text_reply(out, 0, b"NO DATA", linefeeds))
 }

@@ -11,24 +11,24 @@ use lib.ListN.{length, take, drop, getD, set, replicate, length-replicate, lengt
 use lib.Seq.{sets, take-suc, take-suc-set, getD-drop, drop-drop, drop-cons}
 use borrow.Author.Tests.{eqb-true, eqb-false}
 use Rattle.wire.specs.Answer.{result}
-use Rattle.wire.specs.Call.{Said}
 use Rattle.wire.specs.Put.{Put}
 use Rattle.client_state.specs.Settings.{Settings}
 use Rattle.wire.specs.Text.{any}
 use Rattle.wire.proofs.Cases.{by-test, from-no, or-none}
 use Rattle.wire.proofs.PutLaws.{put-none, put-then, put-whole, put-length, put-inside}
 use Rattle.server_session.specs.declared.Phase.{Phase}
-use Rattle.server_session.specs.declared.ByteAnswer.{ByteAnswer}
+use Rattle.server_session.specs.declared.ServerAnswer.{ServerAnswer}
 use Rattle.server_session.specs.declared.Flags.{Flags}
 use Rattle.server_session.specs.declared.Did.{Did}
 use Rattle.server_session.specs.declared.Turn.{Turn}
 use Rattle.server_session.specs.declared.Run.{Run}
 use Rattle.server_session.specs.Session.{Session, isReading}
-use Rattle.server_session.specs.Bytes.{withLine, echoes, byteSays, byteAnswer, Heard, bytesSay, ServedBytes, lentBytes}
-use Rattle.server_session.specs.Steps.{Does, Serves, Shows, shown, goesOn, isSpecial, RunFits, Ran, Joins}
-use Rattle.server_session.proofs.ByteLaws.{reading, text-short}
-use Rattle.server_session.proofs.StepLaws.{line-size, line-cut}
-use Rattle.server_session.proofs.BytesLaws.{after, counted-most, lastOf, bytes-on, bytes-stop, onward-after, echo-append, echo-less, bytes-some}
+use Rattle.server_session.specs.Call.{ServerSaid, serverAnswer, ServerServed, serverLent}
+use Rattle.server_session.specs.Bytes.{withLine, echoes, byteSays, goesOn, bytesSay}
+use Rattle.server_session.specs.Steps.{ByteDoes, Leaves, Serves, Shows, turnSession, isSpecial, RunFits, Ran, Joins}
+use Rattle.server_session.proofs.ByteLaws.{reading, text-short, taken-most}
+use Rattle.server_session.proofs.StepLaws.{line-size}
+use Rattle.server_session.proofs.BytesLaws.{after, bytes-on, bytes-stop, echo-append, echo-less, bytes-some}
 
 -- How many bytes a run may have
 
@@ -59,11 +59,11 @@ put-nothing false out at = put-none out at
 
 pub ran-none : (line : List ℕ) (len : ℕ) (input : List ℕ) (i : ℕ) (out : List ℕ) (at : ℕ) (echo : Bool) (most : ℕ) →
     Ran line len input i out at echo most 0 at line out
-ran-none line len input i out at echo most = record { within = omega arith; plain = refl; joined = rw (add-zero, append-nil (take len line)); sent = put-nothing echo out at }
+ran-none line len input i out at echo most = record { within = omega arith; plain = refl; joined = rw (add-zero, append-nil (take len line)); sent = put-nothing echo out at; still = λ z. refl }
 
 module _ (line : List ℕ) (len : ℕ) (input : List ℕ) (i : ℕ) (out : List ℕ) (at : ℕ) (echo : Bool) (most n end : ℕ) (l o : List ℕ)
     (ran : Ran line len input i out at echo most n end l o)
-    (more : n < most) (fits : len + most ≤ length l) (there : i + most ≤ length input) (plain : isSpecial (getD input (i + n) 0) ≡ false) where
+    (more : n < most) (fits : min len 128 + most ≤ 128) (size : length l ≡ 128) (there : i + most ≤ length input) (plain : isSpecial (getD input (i + n) 0) ≡ false) where
   one-more : take (n + 1) (drop i input) ≡ take n (drop i input) ++ (getD input (i + n) 0 ∷ [])
   one-more = rw add-one (take-suc (drop i input) n 0 (omega (arith, length-drop i input)) ∙ rw (getD-drop i input n 0))
 
@@ -76,18 +76,19 @@ module _ (line : List ℕ) (len : ℕ) (input : List ℕ) (i : ℕ) (out : List 
         plain = rw one-more (any-snoc isSpecial (take n (drop i input)) _ (ran .plain) plain);
         joined = rw (place, one-more, take-suc-set l (len + n) (getD input (i + n) 0) (omega arith), ran .joined, append-assoc);
         sent = rw (one-more, echo-append echo) (put-then (ran .sent) p);
+        still = λ z. absurd (omega arith);
       }
 
 -- What is served
 
 -- i bytes were taken and at written before
-abbrev pub servedFrom : ℕ → ℕ → Heard → List ℕ → ServedBytes
+abbrev pub servedFrom : ℕ → ℕ → ServerSaid → List ℕ → ServerServed
 servedFrom i at h out = record { answer = h .answer; taken = i + h .taken; written = at + length (h .text); next = h .next; out = sets out at (h .text) }
 
-pub from-start : (h : Heard) (out : List ℕ) → servedFrom 0 0 h out ≡ lentBytes h out
+pub from-start : (h : ServerSaid) (out : List ℕ) → servedFrom 0 0 h out ≡ serverLent h out
 from-start h out = simp zero-add
 
-served-after : (i n : ℕ) (h : Heard) {e out o₁ : List ℕ} {at a : ℕ} → Put out at e a o₁ → at + length e ≤ length out → servedFrom i at (after n e h) out ≡ servedFrom (i + n) a h o₁
+served-after : (i n : ℕ) (h : ServerSaid) {e out o₁ : List ℕ} {at a : ℕ} → Put out at e a o₁ → at + length e ≤ length out → servedFrom i at (after n e h) out ≡ servedFrom (i + n) a h o₁
 served-after i n h {e} {out} {o₁} {at} {a} p k =
     let w : Put out at (e ++ h .text) _ (sets o₁ a (h .text)) = put-then p (record { next = refl; bytes = refl }) in
     let t : i + (n + h .taken) ≡ i + n + h .taken = omega arith in
@@ -106,19 +107,19 @@ pub record Leads (state : Settings) (input : List ℕ) (t : Turn) (line : List �
   pub there : i₁ ≤ length input
   pub inside : at₁ ≤ length o
   pub same : length o ≡ length out
-  pub says : servedFrom i₁ at₁ (bytesSay (length o - at₁) (shown t₁ state line₁) (drop i₁ input)) o ≡ servedFrom i at (bytesSay (length out - at) (shown t state line) (drop i input)) out
+  pub says : servedFrom i₁ at₁ (bytesSay (length o - at₁) (turnSession t₁ state line₁) (drop i₁ input)) o ≡ servedFrom i at (bytesSay (length out - at) (turnSession t state line) (drop i input)) out
 
 -- A turn of the loop: its run
 
 module _ (t : Turn) (state : Settings) (line input out : List ℕ) (i at : ℕ) (f : Flags) (shows : Shows state f) (r : Run) (l o : List ℕ) (k : length line ≡ 128)
     (inside : at ≤ length out) (there : i ≤ length input) (run : Joins t (f .echo) line input i out at r l o) where
   abbrev s : Session
-  s = shown t state line
+  s = turnSession t state line
 
   abbrev count : ℕ
   count = run .to .count
 
-  abbrev ran : Ran line (min (t .len) 128) input i out at (f .echo) (run .most) count (r .at) l o
+  abbrev ran : Ran line (t .len) input i out at (f .echo) (run .most) count (r .at) l o
   ran = run .to .ran
 
   abbrev fits : RunFits t (f .echo) (length input - i) (length out - at) (run .most)
@@ -133,10 +134,10 @@ module _ (t : Turn) (state : Settings) (line input out : List ℕ) (i at : ℕ) 
   text-long : length text ≡ count
   text-long = omega (arith, length-take count (drop i input), length-drop i input, ran .within, fits .there)
 
-  joins : shown then state l ≡ withLine s (s .line ++ text) (t .phase)
+  joins : turnSession then state l ≡ withLine s (s .line ++ text) (t .phase)
   joins =
       let joined : take (r .len) l ≡ take (t .len) line ++ text =
-      ap (λ n. take n l) (run .to .ends) ∙ ran .joined ∙ ap (λ (x : List ℕ). x ++ text) (line-cut (t .len) line k) in
+      ap (λ n. take n l) (run .to .ends) ∙ ran .joined in
       ap (λ (x : List ℕ). withLine s x (t .phase)) joined
 
   splits : drop i input ≡ text ++ drop (i + count) input
@@ -174,29 +175,40 @@ module _ (t : Turn) (state : Settings) (line input out : List ℕ) (i at : ℕ) 
         says =
             (λ j. servedFrom (run .to .next j) (r .at) (bytesSay (room j) (joins j) (drop (run .to .next j) input)) o) ∙
             sym (served-after i count h sent w) ∙
-            ap (λ (x : Heard). servedFrom i at x out) (sym says);
+            ap (λ (x : ServerSaid). servedFrom i at x out) (sym says);
       }
+
+  -- where nothing is taken the turn and the line stay themselves
+  pub run-still : r .next ≡ 0 → (then ≡ t) × (l ≡ line)
+  run-still z =
+      let none : count ≡ 0 = omega (arith, run .to .next) in
+      let end : r .len ≡ t .len = omega (arith, run .to .ends) in
+      ((λ j. record { phase = t .phase; len = end j }), ran .still none)
+
+pub leaves-from : {t t₀ : Turn} {line line₀ line₁ : List ℕ} {r : Did} (n : ℕ) → t ≡ t₀ → line ≡ line₀ → Leaves t line r line₁ →
+    Leaves t₀ line₀ (record { answer = r .answer; turn = r .turn; taken = n; at = r .at; repeat = r .repeat }) line₁
+leaves-from n p q v = record { same = v .same ∙ p; kept = v .kept ∙ q; plain = v .plain }
 
 -- A turn of the loop: the byte after it
 
-pub one-most : {d : Said Session Phase} {state : Settings} {line out out₁ : List ℕ} {at : ℕ} {r : Did} → Does d state line out at r out₁ → r .taken ≤ 1
-one-most {d} q = omega (arith, q .taken, counted-most (d .answer))
+pub one-most : (room : ℕ) (s : Session) (b : ℕ) {state : Settings} {line out out₁ : List ℕ} {at : ℕ} {r : Did} → ByteDoes (byteSays room s b) state line out at r out₁ → r .taken ≤ 1
+one-most room s b q = omega (arith, q .taken, taken-most room s b)
 
 module _ (t : Turn) (state : Settings) (line input out : List ℕ) (i at : ℕ) (r : Did) (l o : List ℕ)
-    (inside : at ≤ length out) (here : i < length input) (does : Does (byteSays (length out - at) (shown t state line) (getD input i 0)) state l out at r o) where
-  abbrev said : Said Session Phase
-  said = byteSays (length out - at) (shown t state line) (getD input i 0)
+    (inside : at ≤ length out) (here : i < length input) (does : ByteDoes (byteSays (length out - at) (turnSession t state line) (getD input i 0)) state l out at r o) where
+  abbrev said : ServerSaid
+  said = byteSays (length out - at) (turnSession t state line) (getD input i 0)
 
   fit : at + length (said .text) ≤ length out
-  fit = omega (arith, text-short (length out - at) (shown t state line) (getD input i 0) .1)
+  fit = omega (arith, text-short (length out - at) (turnSession t state line) (getD input i 0) .1)
 
-  pub byte-turn : goesOn (byteAnswer (r .answer)) ≡ true → Leads state input t line i at out (r .turn) l (i + 1) (r .at) o
+  pub byte-turn : goesOn (serverAnswer (r .answer)) ≡ true → Leads state input t line i at out (r .turn) l (i + 1) (r .at) o
   byte-turn e =
       let room : length o - r .at ≡ length out - at - length (said .text) = omega (arith, put-whole (does .text) fit, put-length (does .text)) in
       let h = bytesSay (length out - at - length (said .text)) (said .next) (drop (i + 1) input) in
-      let says : bytesSay (length out - at) (shown t state line) (drop i input) ≡ after 1 (said .text) h =
-      rw (add-one, drop-cons input i 0 here) (bytes-on (length out - at) (shown t state line) (getD input i 0) (drop (suc i) input) (sym (ap goesOn (does .answer)) ∙ e) ∙ onward-after said _) in
-      let next : shown (r .turn) state l ≡ said .next = rw (does .plain e) at (does .next) in
+      let says : bytesSay (length out - at) (turnSession t state line) (drop i input) ≡ after 1 (said .text) h =
+      rw (add-one, drop-cons input i 0 here) (bytes-on (length out - at) (turnSession t state line) (getD input i 0) (drop (suc i) input) (sym (ap goesOn (does .answer)) ∙ e)) in
+      let next : turnSession (r .turn) state l ≡ said .next = rw (does .plain e) at (does .next) in
       record {
         there = omega arith;
         inside = omega (arith, put-inside (does .text) inside, put-length (does .text));
@@ -204,11 +216,12 @@ module _ (t : Turn) (state : Settings) (line input out : List ℕ) (i at : ℕ) 
         says = rw (says, room, next) (sym (served-after i 1 h (does .text) fit));
       }
 
-  pub byte-stop : goesOn (byteAnswer (r .answer)) ≡ false →
-      Serves (servedFrom i at (bytesSay (length out - at) (shown t state line) (drop i input)) out) state l (record { answer = r .answer; turn = r .turn; taken = i + r .taken; at = r .at; repeat = r .repeat }) o
+  pub byte-stop : goesOn (serverAnswer (r .answer)) ≡ false →
+      Serves (servedFrom i at (bytesSay (length out - at) (turnSession t state line) (drop i input)) out) state l
+      (record { answer = r .answer; turn = r .turn; taken = i + r .taken; at = r .at; repeat = r .repeat }) o
   byte-stop e =
-      let says : bytesSay (length out - at) (shown t state line) (drop i input) ≡ lastOf said =
-      rw (drop-cons input i 0 here) (bytes-stop (length out - at) (shown t state line) (getD input i 0) (drop (suc i) input) (sym (ap goesOn (does .answer)) ∙ e)) in
+      let says : bytesSay (length out - at) (turnSession t state line) (drop i input) ≡ said =
+      rw (drop-cons input i 0 here) (bytes-stop (length out - at) (turnSession t state line) (getD input i 0) (drop (suc i) input) (sym (ap goesOn (does .answer)) ∙ e)) in
       let end : r .at ≡ at + length (said .text) = put-whole (does .text) fit in
       record {
         served = rw says (λ j. record { answer = does .answer j; taken = i + does .taken j; written = end j; next = does .next j; out = does .text .bytes j });
@@ -216,11 +229,11 @@ module _ (t : Turn) (state : Settings) (line input out : List ℕ) (i at : ℕ) 
       }
 
 -- no byte is left
-pub bytes-end : (room : ℕ) (t : Turn) (state : Settings) (line input out : List ℕ) (i at : ℕ) (a : ByteAnswer) → length input ≤ i → byteAnswer a ≡ result (t .phase) →
-    Serves (servedFrom i at (bytesSay room (shown t state line) (drop i input)) out) state line (record { answer = a; turn = t; taken = i; at = at; repeat = false }) out
+pub bytes-end : (room : ℕ) (t : Turn) (state : Settings) (line input out : List ℕ) (i at : ℕ) (a : ServerAnswer) → length input ≤ i → serverAnswer a ≡ result (t .phase) →
+    Serves (servedFrom i at (bytesSay room (turnSession t state line) (drop i input)) out) state line (record { answer = a; turn = t; taken = i; at = at; repeat = false }) out
 unfolding bytesSay
 bytes-end room t state line input out i at a h e = record { served = rw (drop-of-length-le input h, e) (simp add-zero); again = λ e. from-no cc }
 
 -- the same of what is served
-pub serves-same : {x y : ServedBytes} {state : Settings} {line out : List ℕ} {r : Did} → x ≡ y → Serves x state line r out → Serves y state line r out
+pub serves-same : {x y : ServerServed} {state : Settings} {line out : List ℕ} {r : Did} → x ≡ y → Serves x state line r out → Serves y state line r out
 serves-same e q = record { served = q .served ∙ e; again = q .again }

@@ -5,38 +5,22 @@ use mathlib.Core.List.{List, [], _∷_, _++_}
 use Prim.Native.Nat.{ℕ, _+_, _-_, _≤_, _<_, min}
 use lib.Dec.{eqb, leb}
 use lib.ListN.{length, take, drop}
-use Rattle.wire.specs.Answer.{Answer, result, refused}
-use Rattle.wire.specs.Call.{Said, refusing, Served}
+use Rattle.wire.specs.declared.Refusal.{Refusal}
 use Rattle.wire.specs.Put.{Put}
 use Rattle.wire.specs.Text.{any}
-use Rattle.client_state.specs.Settings.{Settings, withLast}
-use Rattle.reply.specs.Shape.{chipReply}
-use Rattle.server_session.specs.declared.Phase.{Phase}
-use Rattle.server_session.specs.declared.Phase.the-variants as phase
+use Rattle.client_state.specs.Settings.{Settings}
 use Rattle.server_session.specs.declared.Turn.{Turn}
 use Rattle.server_session.specs.declared.Flags.{Flags}
 use Rattle.server_session.specs.declared.Did.{Did}
 use Rattle.server_session.specs.declared.Run.{Run}
-use Rattle.server_session.specs.declared.Replied.{Replied}
+use Rattle.server_session.specs.declared.ServerAnswer.the-variants.{Refused}
 use Rattle.server_session.specs.Session.{Session, isReading}
-use Rattle.server_session.specs.Bytes.{byteAnswer, ServedBytes}
-use Rattle.server_session.specs.Replies.{answered, serverAnswer}
-
--- more bytes are looked at after this answer
-abbrev pub goesOn : Answer Phase → Bool
-goesOn (result phase.Reading) = true
-goesOn (result phase.AtCommand) = false
-goesOn (result phase.ObdCommand) = false
-goesOn (refused n) = false
-
--- how many bytes were taken, by the answer to one
-abbrev pub counted : Answer Phase → ℕ
-counted (result p) = 1
-counted (refused n) = 0
+use Rattle.server_session.specs.Call.{ServerSaid, ServerServed, serverAnswer}
+use Rattle.server_session.specs.Bytes.{goesOn}
 
 -- the session of a turn, some settings and a line
-abbrev pub shown : Turn → Settings → List ℕ → Session
-shown t state line = record { state = state; line = take (t .len) line; phase = t .phase }
+abbrev pub turnSession : Turn → Settings → List ℕ → Session
+turnSession t state line = record { state = state; line = take (t .len) line; phase = t .phase }
 
 -- What reading goes by of the settings.
 pub record Shows (state : Settings) (f : Flags) : Type 0 where
@@ -49,22 +33,24 @@ abbrev pub left : Did → Settings → List ℕ → Session
 left d state line = record { state = state; line = cond (d .repeat) (state .last) (take (d .turn .len) line); phase = d .turn .phase }
 
 -- A byte that writes from a position of the out buffer on does what is said. Where the last command is repeated it is the line, and no more bytes are looked at.
-pub record Does (d : Said Session Phase) (state : Settings) (line out : List ℕ) (at : ℕ) (r : Did) (out₁ : List ℕ) : Type 0 where
-  pub answer : byteAnswer (r .answer) ≡ d .answer
-  pub taken : r .taken ≡ counted (d .answer)
+pub record ByteDoes (d : ServerSaid) (state : Settings) (line out : List ℕ) (at : ℕ) (r : Did) (out₁ : List ℕ) : Type 0 where
+  pub answer : serverAnswer (r .answer) ≡ d .answer
+  pub taken : r .taken ≡ d .taken
   pub next : left r state line ≡ d .next
   pub text : Put out at (d .text) (r .at) out₁
-  pub plain : goesOn (byteAnswer (r .answer)) ≡ true → r .repeat ≡ false
+  pub plain : goesOn (serverAnswer (r .answer)) ≡ true → r .repeat ≡ false
   pub again : r .repeat ≡ true → r .turn .len ≡ length (state .last)
 
 -- Several bytes serve what is said.
-pub record Serves (x : ServedBytes) (state : Settings) (line : List ℕ) (r : Did) (out : List ℕ) : Type 0 where
-  pub served : record { answer = byteAnswer (r .answer); taken = r .taken; written = r .at; next = left r state line; out = out } ≡ x
+pub record Serves (x : ServerServed) (state : Settings) (line : List ℕ) (r : Did) (out : List ℕ) : Type 0 where
+  pub served : record { answer = serverAnswer (r .answer); taken = r .taken; written = r .at; next = left r state line; out = out } ≡ x
   pub again : r .repeat ≡ true → r .turn .len ≡ length (state .last)
 
--- the answer that a number alone gives
-abbrev pub numbered : ℕ → Answer Phase
-numbered n = cond (eqb n 0) (result phase.Reading) (refused n)
+-- A byte that is refused, with none taken before it, leaves the turn and the line themselves.
+pub record Leaves (turn : Turn) (line : List ℕ) (r : Did) (line₁ : List ℕ) : Type 0 where
+  pub same : r .turn ≡ turn
+  pub kept : line₁ ≡ line
+  pub plain : r .repeat ≡ false
 
 -- a byte that does not just join the line: 80 or more, CR or LF
 unfoldable pub isSpecial : ℕ → Bool
@@ -83,6 +69,7 @@ pub record Ran (line : List ℕ) (len : ℕ) (input : List ℕ) (i : ℕ) (out :
   pub plain : any isSpecial (take count (drop i input)) ≡ false
   pub joined : take (len + count) line₁ ≡ take len line ++ take count (drop i input)
   pub sent : Put out at (cond echo (take count (drop i input)) []) end out₁
+  pub still : count ≡ 0 → line₁ ≡ line
 
 -- The same by where it ends.
 pub record RanTo (line : List ℕ) (len : ℕ) (input : List ℕ) (i : ℕ) (out : List ℕ) (at : ℕ) (echo : Bool) (most : ℕ) (r : Run) (line₁ out₁ : List ℕ) : Type 0 where
@@ -96,31 +83,4 @@ pub record RanTo (line : List ℕ) (len : ℕ) (input : List ℕ) (i : ℕ) (out
 pub record Joins (t : Turn) (echo : Bool) (line input : List ℕ) (i : ℕ) (out : List ℕ) (at : ℕ) (r : Run) (line₁ out₁ : List ℕ) : Type 0 where
   pub most : ℕ
   pub fits : RunFits t echo (length input - i) (length out - at) most
-  pub to : RanTo line (min (t .len) 128) input i out at echo most r line₁ out₁
-
--- no number was given
-abbrev pub isSent : Answer (Unit {0}) → Bool
-isSent (result u) = true
-isSent (refused n) = false
-
--- a number, or else what is said
-abbrev pub unlessRefused : Answer (Unit {0}) → Session → Said Session (Unit {0}) → Said Session (Unit {0})
-unlessRefused (result u) s d = d
-unlessRefused (refused n) s d = refusing n s
-
--- a text rejects the command
-abbrev pub rejected : Session → List ℕ → Said Session (Unit {0})
-rejected s text = answered (s .state) (chipReply (s .state .linefeeds) (text ∷ []))
-
--- the settings after a reply with a line list of some bytes
-abbrev pub keptAfter : ℕ → Session → Settings
-keptAfter n s = cond (eqb n 0) (s .state) (withLast (s .state) (s .line))
-
--- the session that a reply with a line list of some bytes leaves, by its answer
-abbrev pub replyLeaves : Answer (Unit {0}) → ℕ → Session → Session
-replyLeaves (result u) n s = record { state = keptAfter n s; line = []; phase = phase.Reading }
-replyLeaves (refused k) n s = s
-
--- the reply as the host sees it
-abbrev pub repliedAs : Replied → Session → ℕ → List ℕ → Served Session (Unit {0})
-repliedAs r s n out = record { answer = serverAnswer (r .answer); written = r .size; next = replyLeaves (serverAnswer (r .answer)) n s; out = out }
+  pub to : RanTo line (t .len) input i out at echo most r line₁ out₁

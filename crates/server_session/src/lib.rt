@@ -3,19 +3,23 @@
 mod replies;
 
 use client_state::ClientState;
+use wire::Refusal;
+use wire::Verdict;
 ghost use mathlib.Core.Path.{_≡_};
 ghost use mathlib.Core.Bool.{cond, _&&_, not};
 ghost use mathlib.Core.List.{List, [], _∷_};
 ghost use Prim.Native.Nat.{ℕ, _+_, _-_, _≤_, min};
+ghost use Rattle.wire.specs.declared.Refusal.{Refusal};
 ghost use lib.Dec.{eqb, leb};
 ghost use lib.ListN.{length, take};
 ghost use Rattle.wire.specs.Answer.{result};
-ghost use Rattle.wire.specs.Call.{lent};
+ghost use Rattle.wire.specs.Steps.{settled};
 ghost use Rattle.wire.specs.Put.{Put};
 ghost use Rattle.client_state.specs.Settings.{Settings};
 ghost use Rattle.server_session.specs.Session.{Session, session, freshSession, isReading};
-ghost use Rattle.server_session.specs.Bytes.{canonical, byteNumber, commandPhase, emptyLine, lineEnd, byteSays, byteAnswer, byteServed, bytesSay, bytesServed, lentBytes};
-ghost use Rattle.server_session.specs.Steps.{Does, numbered, goesOn, isSpecial, Shows, shown, Serves, RunFits, RanTo, Joins};
+ghost use Rattle.server_session.specs.Call.{serverRefusing, serverAnswer, serverStep, serverLent};
+ghost use Rattle.server_session.specs.Bytes.{canonical, commandPhase, emptyLine, lineEnd, byteTaken, byteSays, goesOn, bytesSay};
+ghost use Rattle.server_session.specs.Steps.{ByteDoes, Leaves, isSpecial, Shows, turnSession, Serves, RunFits, RanTo, Joins};
 
 // Who speaks next.
 pub enum Phase {
@@ -40,56 +44,21 @@ pub struct ServerSession {
     pub turn: Turn,
 }
 
-// What a byte did.
-pub enum ByteAnswer {
-    // It was taken, and more is read.
-    Taken,
+// What a call did.
+pub enum ServerAnswer {
+    // It was taken or is to be sent, and a line is read.
+    Reading,
     // A command is handed out.
     AtCommand,
     ObdCommand,
-    // 1: a command is handed out already.
-    OutOfTurn,
-    // 6: out has less than 8 bytes.
-    SmallBuffer,
-    // 11: a byte of 80 or more.
-    NotAscii,
-    // 10: the line holds 128 bytes.
-    LineFull,
+    // It gets a number of document 01.
+    Refused(Refusal),
 }
 
-pub struct ByteStep {
-    pub answer: ByteAnswer,
-    // How many bytes of out are to be sent.
-    pub written: usize,
-    pub session: ServerSession,
-}
-
-pub struct BytesStep {
-    pub answer: ByteAnswer,
+pub struct ServerStep {
+    pub answer: ServerAnswer,
     // How many bytes of the input were taken.
     pub taken: usize,
-    pub written: usize,
-    pub session: ServerSession,
-}
-
-// What an answer, a reply or a rejection did.
-pub enum ServerAnswer {
-    // It is to be sent, and the next line is read.
-    Sent,
-    // 1: no command of its kind is handed out.
-    OutOfTurn,
-    // 3: an identity string over 32 bytes, or a rejection over 64.
-    TooLong,
-    // 4: a byte of 80 or more in one of them.
-    NotAscii,
-    // 5: not a line list.
-    Malformed,
-    // 6: out is too small.
-    SmallBuffer,
-}
-
-pub struct ReplyStep {
-    pub answer: ServerAnswer,
     // How many bytes of out are to be sent.
     pub written: usize,
     pub session: ServerSession,
@@ -105,7 +74,7 @@ struct Flags {
 // What bytes did: the answer to the last one that was looked at, the turn then, how many were taken, the position in out after what is sent, and whether the
 // last command is to be put into the line.
 struct Did {
-    answer: ByteAnswer,
+    answer: ServerAnswer,
     turn: Turn,
     taken: usize,
     at: usize,
@@ -119,12 +88,6 @@ struct Run {
     at: usize,
 }
 
-// What was answered to a reply, and how many bytes of out are to be sent.
-struct Replied {
-    answer: ServerAnswer,
-    size: usize,
-}
-
 fn is_reading(phase: Phase) -> bool
     ensures { λ r. ⌜ r ≡ isReading phase ⌝ }
 {
@@ -136,22 +99,24 @@ fn is_reading(phase: Phase) -> bool
 }
 
 // The answer that tells of a phase.
-fn phase_answer(phase: Phase) -> ByteAnswer
-    ensures { λ r. ⌜ byteAnswer r ≡ result phase ⌝ }
+fn phase_answer(phase: Phase) -> ServerAnswer
+    ensures { λ r. ⌜ serverAnswer r ≡ result phase ⌝ }
 {
     match phase {
-        Phase::Reading => ByteAnswer::Taken,
-        Phase::AtCommand => ByteAnswer::AtCommand,
-        Phase::ObdCommand => ByteAnswer::ObdCommand,
+        Phase::Reading => ServerAnswer::Reading,
+        Phase::AtCommand => ServerAnswer::AtCommand,
+        Phase::ObdCommand => ServerAnswer::ObdCommand,
     }
 }
 
-fn goes_on(answer: ByteAnswer) -> bool
-    ensures { λ r. ⌜ r ≡ goesOn (byteAnswer answer) ⌝ }
+fn goes_on(answer: ServerAnswer) -> bool
+    ensures { λ r. ⌜ r ≡ goesOn (serverAnswer answer) ⌝ }
 {
     match answer {
-        ByteAnswer::Taken => true,
-        _ => false,
+        ServerAnswer::Reading => true,
+        ServerAnswer::AtCommand => false,
+        ServerAnswer::ObdCommand => false,
+        ServerAnswer::Refused(_) => false,
     }
 }
 
@@ -229,25 +194,24 @@ fn command_phase(line: &[u8; 128], n: usize) -> Phase
     Phase::ObdCommand
 }
 
-// The number that a byte gets, or Taken.
-fn refusal(turn: Turn, b: u8, room: usize) -> ByteAnswer
-    ensures { λ r. ⌜ ((state : Settings) (line : List ℕ) → length line ≡ min (turn .len) 128 → byteAnswer r ≡ numbered (byteNumber room (record { state = state; line = line; phase = turn .phase }) b)) ⌝ }
+// Whether a byte is refused.
+fn byte_verdict(turn: Turn, b: u8, room: usize) -> Verdict
+    ensures { λ r. ⌜ ((s : Session) → s .phase ≡ turn .phase → length (s .line) ≡ min (turn .len) 128 → byteSays room s b ≡ settled r (serverRefusing s) (byteTaken s b)) ⌝ }
 {
     let phase = turn.phase;
-    let full = is_full(turn.len, b);
-    if is_reading(phase) {
-        if room < 8 {
-            return ByteAnswer::SmallBuffer;
-        }
-        if 128 <= b {
-            return ByteAnswer::NotAscii;
-        }
-        if full {
-            return ByteAnswer::LineFull;
-        }
-        return ByteAnswer::Taken;
+    if !is_reading(phase) {
+        return Verdict::Refused(Refusal::OutOfTurn);
     }
-    ByteAnswer::OutOfTurn
+    if room < 8 {
+        return Verdict::Refused(Refusal::SmallBuffer);
+    }
+    if 128 <= b {
+        return Verdict::Refused(Refusal::ByteNotAscii);
+    }
+    if is_full(turn.len, b) {
+        return Verdict::Refused(Refusal::LineFull);
+    }
+    Verdict::Accepted
 }
 
 // A byte is sent back where echo is on.
@@ -289,7 +253,7 @@ fn join_run(
     echo: bool,
     most: usize,
 ) -> Run
-    requires { ⌜ (len + most ≤ 128) × (length (now line) ≡ 128) × (i + most ≤ length (now input)) ⌝ }
+    requires { ⌜ (min len 128 + most ≤ 128) × (length (now line) ≡ 128) × (i + most ≤ length (now input)) ⌝ }
     ensures { λ r. ⌜ RanTo (now (line .entry)) len (now (input .entry)) i (now (out .entry)) at echo most r (now (line .exit)) (now (out .exit)) ⌝ }
 {
     let mut n: usize = 0;
@@ -323,9 +287,8 @@ fn read_run(
     requires { ⌜ (length (now line) ≡ 128) × (i ≤ length (now input)) ⌝ }
     ensures { λ r. ⌜ Joins turn echo (now (line .entry)) (now (input .entry)) i (now (out .entry)) at r (now (line .exit)) (now (out .exit)) ⌝ }
 {
-    let len = wire::at_most(turn.len, 128);
     let most = run_room(turn, echo, room_at(input.len(), i), room_at(out.len(), at));
-    join_run(line, len, input, i, out, at, echo, most)
+    join_run(line, turn.len, input, i, out, at, echo, most)
 }
 
 // The last command has 128 bytes at most, whatever size says.
@@ -341,7 +304,7 @@ fn read_flags(echo: bool, linefeeds: bool, size: usize) -> Flags
 
 // The end of an empty line: the last command is handed out, or `?` is written when there is none.
 fn end_empty(flags: Flags, out: &mut [u8], at: usize) -> Did
-    ensures { λ r. ⌜ ((s : Session) (line : List ℕ) → Shows (s .state) flags → Does (emptyLine s [] (s .state .last)) (s .state) line (now (out .entry)) at r (now (out .exit))) ⌝ }
+    ensures { λ r. ⌜ ((s : Session) (line : List ℕ) → Shows (s .state) flags → ByteDoes (emptyLine s [] (s .state .last)) (s .state) line (now (out .entry)) at r (now (out .exit))) ⌝ }
 {
     if flags.last == 0 {
         let end = reply::put_text_reply(out, at, b"?", flags.linefeeds);
@@ -350,7 +313,7 @@ fn end_empty(flags: Flags, out: &mut [u8], at: usize) -> Did
             len: 0,
         };
         return Did {
-            answer: ByteAnswer::Taken,
+            answer: ServerAnswer::Reading,
             turn,
             taken: 1,
             at: end,
@@ -362,7 +325,7 @@ fn end_empty(flags: Flags, out: &mut [u8], at: usize) -> Did
         len: flags.last,
     };
     Did {
-        answer: ByteAnswer::ObdCommand,
+        answer: ServerAnswer::ObdCommand,
         turn,
         taken: 1,
         at,
@@ -374,7 +337,7 @@ fn end_empty(flags: Flags, out: &mut [u8], at: usize) -> Did
 fn end_line(line: &mut [u8; 128], len: usize, flags: Flags, out: &mut [u8], at: usize) -> Did
     requires { ⌜ length (now line) ≡ 128 ⌝ }
     ensures { λ r. ⌜ ((s : Session) → s .line ≡ take len (now (line .entry)) → Shows (s .state) flags →
-        Does (lineEnd s [] (canonical (s .line))) (s .state) (now (line .exit)) (now (out .entry)) at r (now (out .exit))) ⌝ }
+        ByteDoes (lineEnd s [] (canonical (s .line))) (s .state) (now (line .exit)) (now (out .entry)) at r (now (out .exit))) ⌝ }
     ensures { λ r. ⌜ length (now (line .exit)) ≡ 128 ⌝ }
 {
     let n = make_canonical(line, wire::at_most(len, 128));
@@ -403,13 +366,14 @@ fn take_byte(
 ) -> Did
     requires { ⌜ length (now line) ≡ 128 ⌝ }
     ensures { λ r. ⌜ ((state : Settings) → Shows state flags →
-        Does (byteSays (length (now (out .entry)) - at) (shown turn state (now (line .entry))) b) state (now (line .exit)) (now (out .entry)) at r (now (out .exit))) ⌝ }
+        ByteDoes (byteSays (length (now (out .entry)) - at) (turnSession turn state (now (line .entry))) b) state (now (line .exit)) (now (out .entry)) at r (now (out .exit))) ⌝ }
     ensures { λ r. ⌜ length (now (line .exit)) ≡ 128 ⌝ }
+    ensures { λ r. ⌜ ((q : Refusal) → r .answer ≡ ServerAnswer.Refused q → Leaves turn (now (line .entry)) r (now (line .exit))) ⌝ }
 {
-    let answer = refusal(turn, b, room_at(out.len(), at));
-    if !goes_on(answer) {
+    let verdict = byte_verdict(turn, b, room_at(out.len(), at));
+    if let Verdict::Refused(refusal) = verdict {
         return Did {
-            answer,
+            answer: ServerAnswer::Refused(refusal),
             turn,
             taken: 0,
             at,
@@ -422,7 +386,7 @@ fn take_byte(
     }
     if b == b'\n' {
         return Did {
-            answer,
+            answer: ServerAnswer::Reading,
             turn,
             taken: 1,
             at: end,
@@ -436,7 +400,7 @@ fn take_byte(
         len: len + 1,
     };
     Did {
-        answer,
+        answer: ServerAnswer::Reading,
         turn,
         taken: 1,
         at: end,
@@ -449,8 +413,9 @@ fn take_byte(
 fn take_bytes(line: &mut [u8; 128], turn: Turn, flags: Flags, input: &[u8], out: &mut [u8]) -> Did
     requires { ⌜ length (now line) ≡ 128 ⌝ }
     ensures { λ r. ⌜ ((state : Settings) → Shows state flags →
-        Serves (lentBytes (bytesSay (length (now (out .entry))) (shown turn state (now (line .entry))) (now (input .entry))) (now (out .entry))) state (now (line .exit)) r (now (out .exit))) ⌝ }
+        Serves (serverLent (bytesSay (length (now (out .entry))) (turnSession turn state (now (line .entry))) (now (input .entry))) (now (out .entry))) state (now (line .exit)) r (now (out .exit))) ⌝ }
     ensures { λ r. ⌜ length (now (line .exit)) ≡ 128 ⌝ }
+    ensures { λ r. ⌜ ((q : Refusal) → r .answer ≡ ServerAnswer.Refused q → r .taken ≡ 0 → Leaves turn (now (line .entry)) r (now (line .exit))) ⌝ }
 {
     let mut turn = turn;
     let mut i: usize = 0;
@@ -508,8 +473,9 @@ impl ServerSession {
     }
 
     // One byte from the reader.
-    pub fn byte(mut self, b: u8, out: &mut [u8]) -> ByteStep
-        ensures { λ r. ⌜ byteServed r (now (out .exit)) ≡ lent (byteSays (length (now (out .entry))) (session self) b) (now (out .entry)) ⌝ }
+    pub fn byte(mut self, b: u8, out: &mut [u8]) -> ServerStep
+        ensures { λ r. ⌜ serverStep r (now (out .exit)) ≡ serverLent (byteSays (length (now (out .entry))) (session self) b) (now (out .entry)) ⌝ }
+        ensures { λ r. ⌜ ((q : Refusal) → r .answer ≡ ServerAnswer.Refused q → r .session ≡ self) ⌝ }
     {
         let turn = self.turn;
         let flags = read_flags(
@@ -525,16 +491,18 @@ impl ServerSession {
         let turn = did.turn;
         self.turn = turn;
         let answer = did.answer;
-        ByteStep {
+        ServerStep {
             answer,
+            taken: did.taken,
             written: did.at,
             session: self,
         }
     }
 
     // Bytes from the reader, one after the other: it stops after the one that hands a command out, or before the one that gets a number.
-    pub fn bytes(mut self, input: &[u8], out: &mut [u8]) -> BytesStep
-        ensures { λ r. ⌜ bytesServed r (now (out .exit)) ≡ lentBytes (bytesSay (length (now (out .entry))) (session self) (now (input .entry))) (now (out .entry)) ⌝ }
+    pub fn bytes(mut self, input: &[u8], out: &mut [u8]) -> ServerStep
+        ensures { λ r. ⌜ serverStep r (now (out .exit)) ≡ serverLent (bytesSay (length (now (out .entry))) (session self) (now (input .entry))) (now (out .entry)) ⌝ }
+        ensures { λ r. ⌜ ((q : Refusal) → r .answer ≡ ServerAnswer.Refused q → r .taken ≡ 0 → r .session ≡ self) ⌝ }
     {
         let turn = self.turn;
         let flags = read_flags(
@@ -550,7 +518,7 @@ impl ServerSession {
         let turn = did.turn;
         self.turn = turn;
         let answer = did.answer;
-        BytesStep {
+        ServerStep {
             answer,
             taken: did.taken,
             written: did.at,

@@ -1,27 +1,30 @@
 // The answers to a command that is handed out.
 use crate::Phase;
-use crate::Replied;
-use crate::ReplyStep;
 use crate::ServerAnswer;
 use crate::ServerSession;
+use crate::ServerStep;
 use crate::Turn;
 use at_command::AtHandled;
+use at_command::AtKind;
 use client_state::ClientState;
 use reply::ReplyAnswer;
+use wire::Refusal;
+use wire::Verdict;
 ghost use mathlib.Core.Path.{_≡_};
 ghost use mathlib.Core.Bool.{cond};
 ghost use mathlib.Core.List.{List, [], _∷_};
 ghost use Prim.Native.Nat.{ℕ};
 ghost use lib.Dec.{eqb};
 ghost use lib.ListN.{length, take};
-ghost use Rattle.wire.specs.Call.{lent};
+ghost use Rattle.wire.specs.declared.Refusal.{Refusal};
+ghost use Rattle.wire.specs.Steps.{settled};
 ghost use Rattle.wire.specs.Put.{Put};
 ghost use Rattle.client_state.specs.Settings.{settings, withLast};
 ghost use Rattle.reply.specs.Shape.{chipReply};
 ghost use Rattle.at_command.specs.Dialect.{atKind, kindSettings, kindLines};
 ghost use Rattle.server_session.specs.Session.{Session, session};
-ghost use Rattle.server_session.specs.Replies.{isAt, isObd, serverAnswer, answerSays, atAnswered, replySays, rejectSays, replyServed};
-ghost use Rattle.server_session.specs.Steps.{isSent, unlessRefused, rejected, shown, repliedAs};
+ghost use Rattle.server_session.specs.Call.{serverRefusing, serverStep, serverLent};
+ghost use Rattle.server_session.specs.Replies.{isAt, isObd, answerSays, atAnswered, replySays, rejectSays, rejected};
 
 // Whether an AT command is handed out.
 fn is_at(phase: Phase) -> bool
@@ -55,93 +58,50 @@ fn text_reply_size(text: &[u8], linefeeds: bool) -> usize
     text.len() + 3
 }
 
-fn is_sent(answer: ServerAnswer) -> bool
-    ensures { λ r. ⌜ r ≡ isSent (serverAnswer answer) ⌝ }
-{
-    match answer {
-        ServerAnswer::Sent => true,
-        _ => false,
-    }
-}
-
-// The number that an AT answer gets, or Sent.
-fn answer_refusal(turn: Turn, ati: &[u8], device: &[u8], room: usize) -> ServerAnswer
-    ensures { λ r. ⌜ ((s : Session) → s .phase ≡ turn .phase → answerSays room s (now (ati .entry)) (now (device .entry)) ≡ unlessRefused (serverAnswer r) s (atAnswered s (now (ati .entry)) (now (device .entry)))) ⌝ }
+// Whether an AT answer is refused.
+fn answer_verdict(turn: Turn, ati: &[u8], device: &[u8], room: usize) -> Verdict
+    ensures { λ r. ⌜ ((s : Session) → s .phase ≡ turn .phase → answerSays room s (now (ati .entry)) (now (device .entry)) ≡ settled r (serverRefusing s) (atAnswered s (now (ati .entry)) (now (device .entry)))) ⌝ }
 {
     let phase = turn.phase;
     if !is_at(phase) {
-        return ServerAnswer::OutOfTurn;
+        return Verdict::Refused(Refusal::OutOfTurn);
     }
     if 32 < ati.len() {
-        return ServerAnswer::TooLong;
+        return Verdict::Refused(Refusal::TooLong);
     }
     if 32 < device.len() {
-        return ServerAnswer::TooLong;
+        return Verdict::Refused(Refusal::TooLong);
     }
     if wire::has_high(ati) {
-        return ServerAnswer::NotAscii;
+        return Verdict::Refused(Refusal::NotAscii);
     }
     if wire::has_high(device) {
-        return ServerAnswer::NotAscii;
+        return Verdict::Refused(Refusal::NotAscii);
     }
     if room < 48 {
-        return ServerAnswer::SmallBuffer;
+        return Verdict::Refused(Refusal::SmallBuffer);
     }
-    ServerAnswer::Sent
+    Verdict::Accepted
 }
 
-// The number that a rejection gets, or Sent.
-fn reject_refusal(turn: Turn, text: &[u8], linefeeds: bool, room: usize) -> ServerAnswer
-    ensures { λ r. ⌜ ((s : Session) → s .phase ≡ turn .phase → s .state .linefeeds ≡ linefeeds → rejectSays room s (now (text .entry)) ≡ unlessRefused (serverAnswer r) s (rejected s (now (text .entry)))) ⌝ }
+// Whether a rejection is refused.
+fn reject_verdict(turn: Turn, text: &[u8], linefeeds: bool, room: usize) -> Verdict
+    ensures { λ r. ⌜ ((s : Session) → s .phase ≡ turn .phase → s .state .linefeeds ≡ linefeeds → rejectSays room s (now (text .entry)) ≡ settled r (serverRefusing s) (rejected s (now (text .entry)))) ⌝ }
 {
     let phase = turn.phase;
     if !is_obd(phase) {
-        return ServerAnswer::OutOfTurn;
+        return Verdict::Refused(Refusal::OutOfTurn);
     }
     if 64 < text.len() {
-        return ServerAnswer::TooLong;
+        return Verdict::Refused(Refusal::TooLong);
     }
     if wire::has_high(text) {
-        return ServerAnswer::NotAscii;
+        return Verdict::Refused(Refusal::NotAscii);
     }
     if room < text_reply_size(text, linefeeds) {
-        return ServerAnswer::SmallBuffer;
+        return Verdict::Refused(Refusal::SmallBuffer);
     }
-    ServerAnswer::Sent
-}
-
-// The reply to an OBD command, written at the front of out where it gets no number.
-fn write_lines(turn: Turn, state: ClientState, list: &[u8], out: &mut [u8]) -> Replied
-    ensures { λ r. ⌜ ((line : List ℕ) → repliedAs r (shown turn (settings state) line) (length (now (list .entry))) (now (out .exit)) ≡ lent (replySays (length (now (out .entry))) (shown turn (settings state) line) (now (list .entry))) (now (out .entry))) ⌝ }
-{
-    let phase = turn.phase;
-    if is_obd(phase) {
-        let answer = reply::write_reply(
-            list,
-            state.linefeeds_enabled,
-            state.spaces_enabled,
-            state.headers_enabled,
-            out,
-        );
-        return match answer {
-            ReplyAnswer::Malformed => Replied {
-                answer: ServerAnswer::Malformed,
-                size: 0,
-            },
-            ReplyAnswer::SmallBuffer => Replied {
-                answer: ServerAnswer::SmallBuffer,
-                size: 0,
-            },
-            ReplyAnswer::Written(size) => Replied {
-                answer: ServerAnswer::Sent, // it fits
-                size,
-            },
-        };
-    }
-    Replied {
-        answer: ServerAnswer::OutOfTurn,
-        size: 0,
-    }
+    Verdict::Accepted
 }
 
 // The settings after the AT command that the first len bytes of a line are, and what it is.
@@ -153,12 +113,46 @@ fn handled(state: ClientState, line: &[u8], len: usize) -> AtHandled
     at_command::at_handled(state, &line[..size])
 }
 
+// An AT command's answer at the front of out. ati and device are the identity strings for ATI and AT@1.
+fn put_at_answer<'a>(
+    out: &mut [u8],
+    kind: AtKind,
+    ati: &'a [u8],
+    device: &'a [u8],
+    linefeeds: bool,
+) -> usize
+    ensures { λ r. ⌜ Put (now (out .entry)) 0 (chipReply linefeeds (kindLines (now (ati .entry)) (now (device .entry)) kind)) r (now (out .exit)) ⌝ }
+{
+    match kind {
+        AtKind::Reset => {
+            let at = client_state::put_line_ending(out, 0, linefeeds);
+            let at = client_state::put_line_ending(out, at, linefeeds);
+            reply::put_text_reply(out, at, ati, linefeeds)
+        }
+        AtKind::Ati | AtKind::Device => {
+            let text = at_command::identity_text(ati, device, kind);
+            reply::put_text_reply(out, 0, text, linefeeds)
+        }
+        AtKind::Voltage => reply::put_text_reply(out, 0, b"12.6V", linefeeds),
+        AtKind::Protocol => reply::put_text_reply(
+            out,
+            0,
+            b"AUTO, ISO 15765-4 (CAN 11/500)",
+            linefeeds,
+        ),
+        AtKind::ProtocolNumber => reply::put_text_reply(out, 0, b"A6", linefeeds),
+        AtKind::Unknown => reply::put_text_reply(out, 0, b"?", linefeeds),
+        // The switches, and those taken with no effect.
+        _ => reply::put_text_reply(out, 0, b"OK", linefeeds),
+    }
+}
+
 // The answer to the AT command, with the line ending that is then in force.
 fn put_answer<'a>(handled: AtHandled, ati: &'a [u8], device: &'a [u8], out: &mut [u8]) -> usize
     ensures { λ r. ⌜ Put (now (out .entry)) 0 (chipReply (settings (handled .state) .linefeeds) (kindLines (now (ati .entry)) (now (device .entry)) (handled .kind))) r (now (out .exit)) ⌝ }
 {
     let kind = handled.kind;
-    at_answer::put_at_answer(out, kind, ati, device, handled.state.linefeeds_enabled)
+    put_at_answer(out, kind, ati, device, handled.state.linefeeds_enabled)
 }
 
 // The settings after a reply with a line list of some bytes: the first len bytes of a line are the last command, unless there are no lines.
@@ -175,8 +169,8 @@ fn kept(state: ClientState, line: &[u8], len: usize, lines: usize) -> ClientStat
 
 impl ServerSession {
     // The command has been answered: with settings as they are now the next line is read.
-    fn answered(mut self, state: ClientState, written: usize) -> ReplyStep
-        ensures { λ r. ⌜ r ≡ record { answer = ServerAnswer.Sent; written = written; session = record { state = state; line = self .line; turn = record { phase = Phase.Reading; len = 0 } } } ⌝ }
+    fn answered(mut self, state: ClientState, written: usize) -> ServerStep
+        ensures { λ r. ⌜ r ≡ record { answer = ServerAnswer.Reading; taken = 0; written = written; session = record { state = state; line = self .line; turn = record { phase = Phase.Reading; len = 0 } } } ⌝ }
     {
         self.state = state;
         let turn = Turn {
@@ -184,61 +178,77 @@ impl ServerSession {
             len: 0,
         };
         self.turn = turn;
-        ReplyStep {
-            answer: ServerAnswer::Sent,
+        ServerStep {
+            answer: ServerAnswer::Reading,
+            taken: 0,
             written,
             session: self,
         }
     }
 
-    // Answers the AT command that is handed out, with the line ending that is then in force. ati and device are the identity strings for ATI and AT@1.
-    pub fn answer<'a>(self, ati: &'a [u8], device: &'a [u8], out: &mut [u8]) -> ReplyStep
-        ensures { λ r. ⌜ replyServed r (now (out .exit)) ≡ lent (answerSays (length (now (out .entry))) (session self) (now (ati .entry)) (now (device .entry))) (now (out .entry)) ⌝ }
+    // Nothing is done.
+    fn refused(self, refusal: Refusal) -> ServerStep
+        ensures { λ r. ⌜ r ≡ record { answer = ServerAnswer.Refused refusal; taken = 0; written = 0; session = self } ⌝ }
     {
-        let answer = answer_refusal(self.turn, ati, device, out.len());
-        if is_sent(answer) {
-            let handled = handled(self.state, &self.line, self.turn.len);
-            let written = put_answer(handled, ati, device, out);
-            return self.answered(handled.state, written);
-        }
-        ReplyStep {
-            answer,
+        ServerStep {
+            answer: ServerAnswer::Refused(refusal),
+            taken: 0,
             written: 0,
             session: self,
         }
     }
 
-    // Replies to the OBD command that is handed out with a line list, in the reader's settings. It becomes the last command, unless there are no lines.
-    pub fn reply(self, list: &[u8], out: &mut [u8]) -> ReplyStep
-        ensures { λ r. ⌜ replyServed r (now (out .exit)) ≡ lent (replySays (length (now (out .entry))) (session self) (now (list .entry))) (now (out .entry)) ⌝ }
+    // Answers the AT command that is handed out, with the line ending that is then in force. ati and device are the identity strings for ATI and AT@1.
+    pub fn answer<'a>(self, ati: &'a [u8], device: &'a [u8], out: &mut [u8]) -> ServerStep
+        ensures { λ r. ⌜ serverStep r (now (out .exit)) ≡ serverLent (answerSays (length (now (out .entry))) (session self) (now (ati .entry)) (now (device .entry))) (now (out .entry)) ⌝ }
+        ensures { λ r. ⌜ ((q : Refusal) → r .answer ≡ ServerAnswer.Refused q → r .session ≡ self) ⌝ }
     {
-        let replied = write_lines(self.turn, self.state, list, out);
-        let answer = replied.answer;
-        if is_sent(answer) {
-            let state = kept(self.state, &self.line, self.turn.len, list.len());
-            return self.answered(state, replied.size);
+        let verdict = answer_verdict(self.turn, ati, device, out.len());
+        if let Verdict::Refused(refusal) = verdict {
+            return self.refused(refusal);
         }
-        ReplyStep {
-            answer,
-            written: replied.size,
-            session: self,
+        let handled = handled(self.state, &self.line, self.turn.len);
+        let written = put_answer(handled, ati, device, out);
+        self.answered(handled.state, written)
+    }
+
+    // Replies to the OBD command that is handed out with a line list, in the reader's settings. It becomes the last command, unless there are no lines.
+    pub fn reply(self, list: &[u8], out: &mut [u8]) -> ServerStep
+        ensures { λ r. ⌜ serverStep r (now (out .exit)) ≡ serverLent (replySays (length (now (out .entry))) (session self) (now (list .entry))) (now (out .entry)) ⌝ }
+        ensures { λ r. ⌜ ((q : Refusal) → r .answer ≡ ServerAnswer.Refused q → r .session ≡ self) ⌝ }
+    {
+        let turn = self.turn;
+        let phase = turn.phase;
+        if !is_obd(phase) {
+            return self.refused(Refusal::OutOfTurn);
+        }
+        let answer = reply::write_reply(
+            list,
+            self.state.linefeeds_enabled,
+            self.state.spaces_enabled,
+            self.state.headers_enabled,
+            out,
+        );
+        match answer {
+            ReplyAnswer::Refused(refusal) => self.refused(refusal),
+            ReplyAnswer::Written(size) => {
+                let state = kept(self.state, &self.line, self.turn.len, list.len());
+                self.answered(state, size)
+            }
         }
     }
 
     // Rejects the OBD command that is handed out with a line of text, as `?` or UNABLE TO CONNECT.
-    pub fn reject(self, text: &[u8], out: &mut [u8]) -> ReplyStep
-        ensures { λ r. ⌜ replyServed r (now (out .exit)) ≡ lent (rejectSays (length (now (out .entry))) (session self) (now (text .entry))) (now (out .entry)) ⌝ }
+    pub fn reject(self, text: &[u8], out: &mut [u8]) -> ServerStep
+        ensures { λ r. ⌜ serverStep r (now (out .exit)) ≡ serverLent (rejectSays (length (now (out .entry))) (session self) (now (text .entry))) (now (out .entry)) ⌝ }
+        ensures { λ r. ⌜ ((q : Refusal) → r .answer ≡ ServerAnswer.Refused q → r .session ≡ self) ⌝ }
     {
         let linefeeds = self.state.linefeeds_enabled;
-        let answer = reject_refusal(self.turn, text, linefeeds, out.len());
-        if is_sent(answer) {
-            let written = reply::put_text_reply(out, 0, text, linefeeds);
-            return self.answered(self.state, written);
+        let verdict = reject_verdict(self.turn, text, linefeeds, out.len());
+        if let Verdict::Refused(refusal) = verdict {
+            return self.refused(refusal);
         }
-        ReplyStep {
-            answer,
-            written: 0,
-            session: self,
-        }
+        let written = reply::put_text_reply(out, 0, text, linefeeds);
+        self.answered(self.state, written)
     }
 }

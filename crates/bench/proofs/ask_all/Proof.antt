@@ -15,7 +15,8 @@ use Rattle.bench.proofs.ask_all.Tie as tie
 
 abbrev Inv-loop : tie.InvT-loop
 Inv-loop script lengths bench₀ buffer₀ work₀ store₀ cursor₀ at₀ bench buffer work store cursor at =
-    Left (lent (asked (length buffer₀) (benchOf bench₀ store₀ lengths) (queriesIn script)) buffer₀) script lengths bench (cursor .at) at buffer store × (length work ≡ replyRoom) × (length buffer ≡ length buffer₀) × (length store ≡ length store₀)
+    Left (lent (asked (length buffer₀) (benchOf bench₀ store₀ lengths) (queriesIn script)) buffer₀) script lengths bench (cursor .at) at buffer store × (length work ≡ replyRoom) ×
+    (length buffer ≡ length buffer₀) × (length store ≡ length store₀)
 
 abbrev μ-loop : tie.MeasureT-loop
 μ-loop script lengths bench₀ buffer₀ work₀ store₀ cursor₀ at₀ bench buffer work store cursor at =
@@ -117,7 +118,8 @@ returns-2 : tie.Need-returns-2 Inv-loop μ-loop
 returns-2 c =
     let k = c .before .before in
     let (q, w) = here (found k) in
-    left-refused {whole = whole (start (turn (found k)))} (turn (found k) .loop .inv .0) q _ _ _ _ _ w _ _ _ (heard k .part .ensures) _ _ (k .before .before .add-part .ensures) _ (c .enum-told .given .1)
+    left-refused {whole = whole (start (turn (found k)))} (turn (found k) .loop .inv .0) q _ _ _ _ _ w _ _ _ (heard k .part .ensures) _ _ (k .before .before .add-part .ensures) _
+    (c .enum-told .given .1)
 
 enum-told-2 : tie.Need-enum-told-2 Inv-loop μ-loop
 enum-told-2 c = search needs
@@ -129,7 +131,8 @@ loop-again : tie.Need-loop-again Inv-loop μ-loop
 loop-again c =
     let k = c .before .before .before in
     let (q, w) = here (found k) in (
-      left-next {whole = whole (start (turn (found k)))} (turn (found k) .loop .inv .0) q _ _ _ _ _ w _ _ _ (heard k .part .ensures) _ _ (k .before .before .add-part .ensures) (c .before .enum-told2 .given .1),
+      left-next {whole = whole (start (turn (found k)))} (turn (found k) .loop .inv .0) q _ _ _ _ _ w _ _ _ (heard k .part .ensures) _ _ (k .before .before .add-part .ensures)
+          (c .before .enum-told2 .given .1),
       heard k .part .ensures .room,
       omega (arith, k .before .buffer .given, turn (found k) .loop .inv .2),
       omega (arith, k .before .before .before .before .before .before .store .given, turn (found k) .loop .inv .3),

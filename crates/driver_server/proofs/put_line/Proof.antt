@@ -11,10 +11,16 @@ command-size-requires : tie.Need-command-size-requires
 command-size-requires c κs = search needs
 
 array-share-prefix-line : tie.Need-array-share-prefix-line
-array-share-prefix-line c = let h : length (c .before .before .before .before .args .server .line) ≡ 128 = search needs in omega (arith, c .before .command-size .ensures, length-take (c .before .before .before .before .args .server .turn .len) (c .before .before .before .before .args .server .line))
+array-share-prefix-line c =
+    let start = c .before .before .before .before in
+    let h : length (start .args .server .line) ≡ 128 = search needs in
+    omega (arith, c .before .command-size .ensures, length-take (start .args .server .turn .len) (start .args .server .line))
 
 slice-aggregate-put-text : tie.Need-slice-aggregate-put-text
-slice-aggregate-put-text c = let h : length (c .before .before .before .before .before .args .server .line) ≡ 128 = search needs in simp length-take (omega (arith, c .before .before .command-size .ensures, length-take (c .before .before .before .before .before .args .server .turn .len) (c .before .before .before .before .before .args .server .line)))
+slice-aggregate-put-text c =
+    let start = c .before .before .before .before .before in
+    let h : length (start .args .server .line) ≡ 128 = search needs in
+    simp length-take (omega (arith, c .before .before .command-size .ensures, length-take (start .args .server .turn .len) (start .args .server .line)))
 
 put-text-requires : tie.Need-put-text-requires
 put-text-requires c κs = search needs
@@ -23,7 +29,10 @@ same-length : tie.Need-same-length
 same-length c = search needs
 
 returns : tie.Need-returns
-returns c = rw (← take-cut (c .before .before .before .before .before .before .before .before .args .server .turn .len) (c .before .before .before .before .before .before .before .before .args .server .line), ← c .before .before .before .before .before .command-size .ensures) (c .before .before .put-text .ensures)
+returns c =
+    let at-command-size = c .before .before .before .before .before in
+    let start = at-command-size .before .before .before in
+    rw (← take-cut (start .args .server .turn .len) (start .args .server .line), ← at-command-size .command-size .ensures) (c .before .before .put-text .ensures)
 
 pub put-line-spec : {M : Type 1} → statement M
 put-line-spec =

@@ -35,7 +35,16 @@ same-length : tie.Need-same-length
 same-length c = search needs
 
 returns : tie.Need-returns
-returns c = rw (← c .before .before .before .before .before .before .before .before .before .before .before .before .before .before .before .before .before .flag .ensures, ← c .before .before .before .before .before .before .before .before .before .before .before .before .before .before .before .before .flag2 .ensures, ← c .before .before .before .before .before .before .before .before .before .before .before .before .before .before .before .flag3 .ensures, ← c .before .before .before .before .before .before .before .before .before .before .before .before .before .before .flag4 .ensures, ← c .before .before .before .before .before .before .before .before .before .before .before .before .before .phase-code .ensures) (put-then (c .before .before .before .before .before .before .before .before .before .before .put .ensures) (put-then (c .before .before .before .before .before .before .put-last .ensures) (c .before .before .put-line .ensures)))
+returns c =
+    let at-put-last = c .before .before .before .before .before .before in
+    let at-put = at-put-last .before .before .before .before in
+    let at-phase-code = at-put .before .before .before in
+    let at-flag4 = at-phase-code .before in
+    let at-flag3 = at-flag4 .before in
+    let at-flag2 = at-flag3 .before in
+    let at-flag = at-flag2 .before in
+    rw (← at-flag .flag .ensures, ← at-flag2 .flag2 .ensures, ← at-flag3 .flag3 .ensures, ← at-flag4 .flag4 .ensures, ← at-phase-code .phase-code .ensures)
+    (put-then (at-put .put .ensures) (put-then (at-put-last .put-last .ensures) (c .before .before .put-line .ensures)))
 
 pub put-state-spec : {M : Type 1} → statement M
 put-state-spec =

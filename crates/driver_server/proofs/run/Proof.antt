@@ -5,12 +5,12 @@ use Prim.Native.Nat.{ℕ, _+_, _-_, _≤_, _<_}
 use native.Mathlib.Omega.{arith}
 use lib.ListN.{length, take, drop, getD}
 use borrow.Author.Needs.{needs}
-use Rattle.wire.specs.Call.{lent}
+use Rattle.server_session.specs.Call.{ServerServed, serverLent}
 use Rattle.server_session.specs.Session.{Session, session}
 use Rattle.server_session.specs.Bytes.{byteSays}
 use Rattle.driver_log.specs.Log.{Turn}
 use Rattle.driver_log.specs.Script.{calls}
-use Rattle.driver_server.specs.Server.{serverCall, serverAt, byteNoted, bytesNoted, sentNoted}
+use Rattle.driver_server.specs.Server.{serverCall, serverAt, callNoted}
 use Rattle.driver_log.proofs.LogLaws.{answered-is}
 use Rattle.driver_log.proofs.ScriptLaws.{calls-turn, calls-end}
 use Rattle.driver_server.proofs.CallLaws.{server-rare}
@@ -53,7 +53,8 @@ module _ (k : tie.After-shared-slice-known2 Inv-loop μ-loop) where
 
   turned : (kind : ℕ) (u : Turn Session) → getD given from 0 ≡ kind → u ≡ serverCall here kind argument →
       calls serverCall u (drop (from + 3 + size) given) ≡
-      calls serverCall (serverAt (session (head .before .before .before .before .args .server)) 0 (head .before .before .before .before .args .out .now) (head .before .before .before .before .args .log .now)) given
+      calls serverCall (serverAt (session (head .before .before .before .before .args .server)) 0 (head .before .before .before .before .args .out .now)
+      (head .before .before .before .before .args .log .now)) given
   turned kind u e w =
       calls-turn serverCall here u given from size kind (k .before .before .loop-test .taken) (k .before .argument-size .ensures) e w ∙ head .loop .inv .3
 
@@ -90,8 +91,8 @@ byte-of-requires c κs = search needs
 byte-requires : tie.Need-byte-requires Inv-loop μ-loop
 byte-requires c κs = search needs
 
-byte-code-requires : tie.Need-byte-code-requires Inv-loop μ-loop
-byte-code-requires c κs = search needs
+answer-code-requires : tie.Need-answer-code-requires Inv-loop μ-loop
+answer-code-requires c κs = search needs
 
 put-call-requires : tie.Need-put-call-requires Inv-loop μ-loop
 put-call-requires c κs = search needs
@@ -100,7 +101,20 @@ loop-less : tie.Need-loop-less Inv-loop μ-loop
 loop-less c = less (c .before .before .before .before .before .before .before .before .before .before .before .before .before .before)
 
 loop-again : tie.Need-loop-again Inv-loop μ-loop
-loop-again c = let k = c .before .before .before .before .before .before .before .before .before .before .before .before .before .before in (there k, search needs, search needs, turned k 1 _ (c .before .before .before .before .before .before .before .before .before .before .before .before .before .match .keys1) (answered-is _ 0 (c .before .before .before .before .before .before .before .before .before .byte .result .written) (c .before .before .before .before .byte-code .ensures) (c .before .before .put-call .ensures) ∙ ap (byteNoted (here k)) (c .before .before .before .before .before .before .before .before .before .byte .ensures) ∙ ap (λ b. byteNoted (here k) (lent (byteSays (length (here k .out)) (here k .session) b) (here k .out))) (c .before .before .before .before .before .before .before .before .before .before .before .byte-of .ensures)))
+loop-again c =
+    let at-answer-code = c .before .before .before .before in
+    let at-byte = at-answer-code .before .before .before .before .before in
+    let at-byte-of = at-byte .before .before in
+    let at-match = at-byte-of .before .before in
+    let k = at-match .before in (
+      there k,
+      search needs,
+      search needs,
+      turned k 1 _ (at-match .match .keys1)
+          (answered-is _ 0 (at-byte .byte .result .written) (at-answer-code .answer-code .ensures) (c .before .before .put-call .ensures) ∙
+          ap (callNoted (here k) 0) (at-byte .byte .ensures .0) ∙ ap (λ b. callNoted (here k) 0 (serverLent (byteSays (length (here k .out)) (here k .session) b) (here k .out)))
+          (at-byte-of .byte-of .ensures)),
+    )
 
 sub-bytes : tie.Need-sub-bytes Inv-loop μ-loop
 sub-bytes c = search needs
@@ -114,8 +128,8 @@ part-bytes-end c = search needs
 bytes-requires : tie.Need-bytes-requires Inv-loop μ-loop
 bytes-requires c κs = search needs
 
-byte-code-requires-2 : tie.Need-byte-code-requires-2 Inv-loop μ-loop
-byte-code-requires-2 c κs = search needs
+answer-code-requires-2 : tie.Need-answer-code-requires-2 Inv-loop μ-loop
+answer-code-requires-2 c κs = search needs
 
 put-call-requires-2 : tie.Need-put-call-requires-2 Inv-loop μ-loop
 put-call-requires-2 c κs = search needs
@@ -124,7 +138,18 @@ loop-less-2 : tie.Need-loop-less-2 Inv-loop μ-loop
 loop-less-2 c = less (c .before .before .before .before .before .before .before .before .before .before .before .before .before)
 
 loop-again-2 : tie.Need-loop-again-2 Inv-loop μ-loop
-loop-again-2 c = let k = c .before .before .before .before .before .before .before .before .before .before .before .before .before in (there k, search needs, search needs, turned k 2 _ (c .before .before .before .before .before .before .before .before .before .before .before .before .match .keys2) (answered-is _ (c .before .before .before .before .before .before .before .before .before .bytes .result .taken) (c .before .before .before .before .before .before .before .before .before .bytes .result .written) (c .before .before .before .before .byte-code2 .ensures) (c .before .before .put-call2 .ensures) ∙ ap (bytesNoted (here k)) (c .before .before .before .before .before .before .before .before .before .bytes .ensures)))
+loop-again-2 c =
+    let at-answer-code2 = c .before .before .before .before in
+    let at-bytes = at-answer-code2 .before .before .before .before .before in
+    let at-match = at-bytes .before .before .before in
+    let k = at-match .before in (
+      there k,
+      search needs,
+      search needs,
+      turned k 2 _ (at-match .match .keys2)
+          (answered-is _ (at-bytes .bytes .result .taken) (at-bytes .bytes .result .written) (at-answer-code2 .answer-code2 .ensures) (c .before .before .put-call2 .ensures) ∙
+          ap (λ (r : ServerServed). callNoted (here k) (r .taken) r) (at-bytes .bytes .ensures .0)),
+    )
 
 sub-reply : tie.Need-sub-reply Inv-loop μ-loop
 sub-reply c = search needs
@@ -138,8 +163,8 @@ part-reply-end c = search needs
 reply-requires : tie.Need-reply-requires Inv-loop μ-loop
 reply-requires c κs = search needs
 
-sent-code-requires : tie.Need-sent-code-requires Inv-loop μ-loop
-sent-code-requires c κs = search needs
+answer-code-requires-3 : tie.Need-answer-code-requires-3 Inv-loop μ-loop
+answer-code-requires-3 c κs = search needs
 
 put-call-requires-3 : tie.Need-put-call-requires-3 Inv-loop μ-loop
 put-call-requires-3 c κs = search needs
@@ -148,7 +173,18 @@ loop-less-3 : tie.Need-loop-less-3 Inv-loop μ-loop
 loop-less-3 c = less (c .before .before .before .before .before .before .before .before .before .before .before .before .before)
 
 loop-again-3 : tie.Need-loop-again-3 Inv-loop μ-loop
-loop-again-3 c = let k = c .before .before .before .before .before .before .before .before .before .before .before .before .before in (there k, search needs, search needs, turned k 3 _ (c .before .before .before .before .before .before .before .before .before .before .before .before .match .keys3) (answered-is _ 0 (c .before .before .before .before .before .before .before .before .before .reply .result .written) (c .before .before .before .before .sent-code .ensures) (c .before .before .put-call3 .ensures) ∙ ap (sentNoted (here k)) (c .before .before .before .before .before .before .before .before .before .reply .ensures)))
+loop-again-3 c =
+    let at-answer-code3 = c .before .before .before .before in
+    let at-reply = at-answer-code3 .before .before .before .before .before in
+    let at-match = at-reply .before .before .before in
+    let k = at-match .before in (
+      there k,
+      search needs,
+      search needs,
+      turned k 3 _ (at-match .match .keys3)
+          (answered-is _ 0 (at-reply .reply .result .written) (at-answer-code3 .answer-code3 .ensures) (c .before .before .put-call3 .ensures) ∙
+          ap (callNoted (here k) 0) (at-reply .reply .ensures .0)),
+    )
 
 slice-aggregate-answer : tie.Need-slice-aggregate-answer Inv-loop μ-loop
 slice-aggregate-answer c = search needs
@@ -165,8 +201,8 @@ part-answer-end c = search needs
 answer-requires : tie.Need-answer-requires Inv-loop μ-loop
 answer-requires c κs = search needs
 
-sent-code-requires-2 : tie.Need-sent-code-requires-2 Inv-loop μ-loop
-sent-code-requires-2 c κs = search needs
+answer-code-requires-4 : tie.Need-answer-code-requires-4 Inv-loop μ-loop
+answer-code-requires-4 c κs = search needs
 
 put-call-requires-4 : tie.Need-put-call-requires-4 Inv-loop μ-loop
 put-call-requires-4 c κs = search needs
@@ -175,7 +211,18 @@ loop-less-4 : tie.Need-loop-less-4 Inv-loop μ-loop
 loop-less-4 c = less (c .before .before .before .before .before .before .before .before .before .before .before .before .before .before)
 
 loop-again-4 : tie.Need-loop-again-4 Inv-loop μ-loop
-loop-again-4 c = let k = c .before .before .before .before .before .before .before .before .before .before .before .before .before .before in (there k, search needs, search needs, turned k 4 _ (c .before .before .before .before .before .before .before .before .before .before .before .before .before .match .keys4) (answered-is _ 0 (c .before .before .before .before .before .before .before .before .before .answer .result .written) (c .before .before .before .before .sent-code2 .ensures) (c .before .before .put-call4 .ensures) ∙ ap (sentNoted (here k)) (c .before .before .before .before .before .before .before .before .before .answer .ensures)))
+loop-again-4 c =
+    let at-answer-code4 = c .before .before .before .before in
+    let at-answer = at-answer-code4 .before .before .before .before .before in
+    let at-match = at-answer .before .before .before .before in
+    let k = at-match .before in (
+      there k,
+      search needs,
+      search needs,
+      turned k 4 _ (at-match .match .keys4)
+          (answered-is _ 0 (at-answer .answer .result .written) (at-answer-code4 .answer-code4 .ensures) (c .before .before .put-call4 .ensures) ∙
+          ap (callNoted (here k) 0) (at-answer .answer .ensures .0)),
+    )
 
 sub-rare : tie.Need-sub-rare Inv-loop μ-loop
 sub-rare c = search needs
@@ -193,7 +240,11 @@ loop-less-5 : tie.Need-loop-less-5 Inv-loop μ-loop
 loop-less-5 c = less (c .before .before .before .before .before .before .before .before .before .before)
 
 loop-again-5 : tie.Need-loop-again-5 Inv-loop μ-loop
-loop-again-5 c = let k = c .before .before .before .before .before .before .before .before .before .before in (there k, search needs, search needs, turned k (getD (given k) (from k) 0) _ refl (c .before .before .before .before .before .rare .ensures ∙ server-rare (here k) (getD (given k) (from k) 0) (argument k) (c .before .before .before .before .before .before .before .before .before .match .rest)))
+loop-again-5 c =
+    let at-rare = c .before .before .before .before .before in
+    let at-match = at-rare .before .before .before .before in
+    let k = at-match .before in
+    (there k, search needs, search needs, turned k (getD (given k) (from k) 0) _ refl (at-rare .rare .ensures ∙ server-rare (here k) (getD (given k) (from k) 0) (argument k) (at-match .match .rest)))
 
 same-length : tie.Need-same-length Inv-loop μ-loop
 same-length c = search needs
@@ -202,7 +253,11 @@ same-length-2 : tie.Need-same-length-2 Inv-loop μ-loop
 same-length-2 c = search needs
 
 returns : tie.Need-returns Inv-loop μ-loop
-returns c = sym (calls-end serverCall (serverAt (session (c .before .loop .server)) (c .before .loop .at) (c .before .loop .out) (c .before .loop .log)) (c .before .before .before .before .before .args .script .now) (c .before .loop .from) (c .loop-test .left)) ∙ c .before .loop .inv .3
+returns c =
+    let start = c .before .before .before .before .before in
+    sym (calls-end serverCall (serverAt (session (c .before .loop .server)) (c .before .loop .at) (c .before .loop .out) (c .before .loop .log)) (start .args .script .now)
+    (c .before .loop .from) (c .loop-test .left)) ∙
+    c .before .loop .inv .3
 
 pub run-spec : {M : Type 1} → statement M
 run-spec =
@@ -221,7 +276,7 @@ run-spec =
     part-byte-of-end
     byte-of-requires
     byte-requires
-    byte-code-requires
+    answer-code-requires
     put-call-requires
     loop-less
     loop-again
@@ -229,7 +284,7 @@ run-spec =
     part-bytes-start
     part-bytes-end
     bytes-requires
-    byte-code-requires-2
+    answer-code-requires-2
     put-call-requires-2
     loop-less-2
     loop-again-2
@@ -237,7 +292,7 @@ run-spec =
     part-reply-start
     part-reply-end
     reply-requires
-    sent-code-requires
+    answer-code-requires-3
     put-call-requires-3
     loop-less-3
     loop-again-3
@@ -246,7 +301,7 @@ run-spec =
     part-answer-start
     part-answer-end
     answer-requires
-    sent-code-requires-2
+    answer-code-requires-4
     put-call-requires-4
     loop-less-4
     loop-again-4

@@ -33,13 +33,26 @@ run-requires-2 : tie.Need-run-requires-2 Inv-loop μ-loop
 run-requires-2 c κs = search needs
 
 add-round : tie.Need-add-round Inv-loop μ-loop
-add-round c = omega (arith, c .before .before .before .before .before .before .before .before .before .before .before .before .before .before .before .before .before .before .before .before .before .fits)
+add-round c =
+    let start = c .before .before .before .before .before .before .before .before .before .before .before .before .before .before .before .before .before .before .before .before .before in
+    omega (arith, start .fits)
 
 loop-less : tie.Need-loop-less Inv-loop μ-loop
 loop-less c = omega (arith, c .before .before .before .before .before .before .before .loop-test .taken)
 
 loop-again : tie.Need-loop-again Inv-loop μ-loop
-loop-again c = (omega (arith, c .before .before .before .before .before .before .before .loop-test .taken), search needs, search needs, ap (rounds (serverRun (c .before .before .before .before .before .before .before .before .before .before .before .before .before .before .before .before .before .before .before .before .before .args .again .now)) (c .before .before .before .before .before .before .before .before .before .before .before .before .before .before .before .before .before .before .before .before .before .args .times - (c .before .before .before .before .before .before .before .before .loop .round + 1))) (c .before .before .before .before .run2 .ensures) ∙ rounds-turn (serverRun (c .before .before .before .before .before .before .before .before .before .before .before .before .before .before .before .before .before .before .before .before .before .args .again .now)) (c .before .before .before .before .before .before .before .before .before .before .before .before .before .before .before .before .before .before .before .before .before .args .times) (c .before .before .before .before .before .before .before .before .loop .round) (serverTurn (c .before .before .before .before .before .before .before .before .loop .turn) (c .before .before .before .before .before .before .before .before .loop .out) (c .before .before .before .before .before .before .before .before .loop .log)) (c .before .before .before .before .before .before .before .loop-test .taken) ∙ c .before .before .before .before .before .before .before .before .loop .inv .3)
+loop-again c =
+    let at-run2 = c .before .before .before .before in
+    let at-loop-test = at-run2 .before .before .before in
+    let head = at-loop-test .before in
+    let start = head .before .before .before .before .before .before .before .before .before .before .before .before .before in (
+      omega (arith, at-loop-test .loop-test .taken),
+      search needs,
+      search needs,
+      ap (rounds (serverRun (start .args .again .now)) (start .args .times - (head .loop .round + 1))) (at-run2 .run2 .ensures) ∙
+          rounds-turn (serverRun (start .args .again .now)) (start .args .times) (head .loop .round) (serverTurn (head .loop .turn) (head .loop .out) (head .loop .log))
+          (at-loop-test .loop-test .taken) ∙ head .loop .inv .3,
+    )
 
 same-length : tie.Need-same-length Inv-loop μ-loop
 same-length c = search needs
@@ -48,7 +61,14 @@ same-length-2 : tie.Need-same-length-2 Inv-loop μ-loop
 same-length-2 c = search needs
 
 returns : tie.Need-returns Inv-loop μ-loop
-returns c = ap loggedOf (sym (rounds-end (serverRun (c .before .before .before .before .before .before .before .before .before .before .before .before .before .before .args .again .now)) (c .before .before .before .before .before .before .before .before .before .before .before .before .before .before .args .times) (c .before .loop .round) (serverTurn (c .before .loop .turn) (c .before .loop .out) (c .before .loop .log)) (c .loop-test .left)) ∙ c .before .loop .inv .3 ∙ ap (rounds (serverRun (c .before .before .before .before .before .before .before .before .before .before .before .before .before .before .args .again .now)) (c .before .before .before .before .before .before .before .before .before .before .before .before .before .before .args .times)) (c .before .before .before .before .before .before .run .ensures ∙ ap (λ s. calls serverCall (serverAt s 0 (c .before .before .before .before .before .before .before .before .before .before .before .before .before .before .args .out .now) (c .before .before .before .before .before .before .before .before .before .before .before .before .before .before .args .log .now)) (c .before .before .before .before .before .before .before .before .before .before .before .before .before .before .args .script .now)) (c .before .before .before .before .before .before .before .before .before .new .ensures)))
+returns c =
+    let at-run = c .before .before .before .before .before .before in
+    let at-new = at-run .before .before .before in
+    let start = at-new .before .before .before .before .before in
+    ap loggedOf (sym (rounds-end (serverRun (start .args .again .now)) (start .args .times) (c .before .loop .round)
+    (serverTurn (c .before .loop .turn) (c .before .loop .out) (c .before .loop .log)) (c .loop-test .left)) ∙ c .before .loop .inv .3 ∙
+    ap (rounds (serverRun (start .args .again .now)) (start .args .times))
+    (at-run .run .ensures ∙ ap (λ s. calls serverCall (serverAt s 0 (start .args .out .now) (start .args .log .now)) (start .args .script .now)) (at-new .new .ensures)))
 
 pub run-rounds-spec : {M : Type 1} → statement M
 run-rounds-spec =

@@ -12,13 +12,29 @@ data-size-requires : tie.Need-data-size-requires
 data-size-requires c κs = search needs
 
 add-result : tie.Need-add-result
-add-result c = omega (arith, header-short (c .before .before .args .spaces) (c .before .before .args .headers), data-short (c .before .before .args .spaces) (c .before .before .args .n) (c .before .before .pre), c .before .header-size .ensures, c .data-size .ensures)
+add-result c = omega (
+  arith,
+  header-short (c .before .before .args .spaces) (c .before .before .args .headers),
+  data-short (c .before .before .args .spaces) (c .before .before .args .n) (c .before .before .pre),
+  c .before .header-size .ensures,
+  c .data-size .ensures,
+)
 
 ending-size-requires : tie.Need-ending-size-requires
 ending-size-requires c κs = search needs
 
 add-result-2 : tie.Need-add-result-2
-add-result-2 c = omega (arith, header-short (c .before .before .before .args .spaces) (c .before .before .before .args .headers), data-short (c .before .before .before .args .spaces) (c .before .before .before .args .n) (c .before .before .before .pre), ending-short (c .before .before .before .args .linefeeds), c .before .before .header-size .ensures, c .before .data-size .ensures, c .ending-size .ensures)
+add-result-2 c =
+    let start = c .before .before .before in
+    omega (
+      arith,
+      header-short (start .args .spaces) (start .args .headers),
+      data-short (start .args .spaces) (start .args .n) (start .pre),
+      ending-short (start .args .linefeeds),
+      c .before .before .header-size .ensures,
+      c .before .data-size .ensures,
+      c .ending-size .ensures,
+    )
 
 returns : tie.Need-returns
 returns c = search needs

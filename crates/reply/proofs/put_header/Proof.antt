@@ -27,7 +27,14 @@ same-length : tie.Need-same-length
 same-length c = search needs
 
 returns : tie.Need-returns
-returns c = rw (c .before .before .before .before .before .before .before .before .before .before .before .before .before .before .before .before .before .if1 .taken) (put-then (rw (c .before .before .before .before .before .before .before .before .before .before .before .before .before .before .before .ecu-id .ensures) at (c .before .before .before .before .before .before .before .before .before .before .before .before .before .before .put-hex-id .ensures)) (put-then (c .before .before .before .before .before .before .before .before .before .before .put-space .ensures) (put-then (rw byte-low at (c .before .before .before .before .before .before .put-hex-byte .ensures)) (c .before .before .put-space2 .ensures))))
+returns c =
+    let at-put-hex-byte = c .before .before .before .before .before .before in
+    let at-put-space = at-put-hex-byte .before .before .before .before in
+    let at-put-hex-id = at-put-space .before .before .before .before in
+    let at-ecu-id = at-put-hex-id .before in
+    let at-if1 = at-ecu-id .before .before in
+    rw (at-if1 .if1 .taken) (put-then (rw (at-ecu-id .ecu-id .ensures) at (at-put-hex-id .put-hex-id .ensures))
+    (put-then (at-put-space .put-space .ensures) (put-then (rw byte-low at (at-put-hex-byte .put-hex-byte .ensures)) (c .before .before .put-space2 .ensures))))
 
 returns-2 : tie.Need-returns-2
 returns-2 c = rw (c .if1 .left) (put-none _ _)

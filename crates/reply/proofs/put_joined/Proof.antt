@@ -18,7 +18,17 @@ abbrev μ-loop : tie.MeasureT-loop
 μ-loop out₀ at payload to₀ i₀ out to i = length payload - i
 
 loop-holds : tie.Need-loop-holds Inv-loop μ-loop
-loop-holds c = (omega arith, refl, omega (arith, further-length false (drop 1 (c .before .before .args .payload .now)), length-drop 1 (c .before .before .args .payload .now), c .before .before .pre), further-start _ _ _ _)
+loop-holds c = (
+  omega arith,
+  refl,
+  omega (
+    arith,
+    further-length false (drop 1 (c .before .before .args .payload .now)),
+    length-drop 1 (c .before .before .args .payload .now),
+    c .before .before .pre,
+  ),
+  further-start _ _ _ _,
+)
 
 shared-slice-read-byte : tie.Need-shared-slice-read-byte Inv-loop μ-loop
 shared-slice-read-byte c = omega arith

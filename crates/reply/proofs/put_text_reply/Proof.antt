@@ -17,7 +17,10 @@ same-length : tie.Need-same-length
 same-length c = search needs
 
 returns : tie.Need-returns
-returns c = put-then (c .before .before .before .before .before .before .before .before .before .before .put .ensures) (put-then (c .before .before .before .before .before .before .put-line-ending .ensures) (c .before .before .put-prompt .ensures))
+returns c =
+    let at-put-line-ending = c .before .before .before .before .before .before in
+    let at-put = at-put-line-ending .before .before .before .before in
+    put-then (at-put .put .ensures) (put-then (at-put-line-ending .put-line-ending .ensures) (c .before .before .put-prompt .ensures))
 
 pub put-text-reply-spec : {M : Type 1} → statement M
 put-text-reply-spec =

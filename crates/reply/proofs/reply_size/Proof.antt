@@ -34,7 +34,9 @@ returns : tie.Need-returns Inv-loop μ-loop
 returns c = rw (c .before .ending-size .ensures) (size-none _ _ _ _ (c .if1 .taken))
 
 loop-holds : tie.Need-loop-holds Inv-loop μ-loop
-loop-holds c = (omega arith, omega (arith, ending-short (c .before .before .before .args .linefeeds), c .before .ending-size .ensures), rw (c .before .ending-size .ensures) (size-start _ _ _ _ _ (c .if1 .left) refl))
+loop-holds c =
+    let start = c .before .before .before in
+    (omega arith, omega (arith, ending-short (start .args .linefeeds), c .before .ending-size .ensures), rw (c .before .ending-size .ensures) (size-start _ _ _ _ _ (c .if1 .left) refl))
 
 step-requires : tie.Need-step-requires Inv-loop μ-loop
 step-requires c κs = search needs
@@ -43,7 +45,11 @@ enum-known-start : tie.Need-enum-known-start Inv-loop μ-loop
 enum-known-start c = search needs
 
 returns-2 : tie.Need-returns-2 Inv-loop μ-loop
-returns-2 c = let w = step-line _ _ (c .before .before .before .before .step .ensures) (c .before .before .start .given .1) in sym (size-full _ _ _ _ _ _ _ _ _ _ w (c .if2 .taken)) ∙ c .before .before .before .before .before .loop .inv .2
+returns-2 c =
+    let at-step = c .before .before .before .before in
+    let head = at-step .before in
+    let w = step-line _ _ (at-step .step .ensures) (c .before .before .start .given .1) in
+    sym (size-full _ _ _ _ _ _ _ _ _ _ w (c .if2 .taken)) ∙ head .loop .inv .2
 
 sub-line-size : tie.Need-sub-line-size Inv-loop μ-loop
 sub-line-size c = let w = step-line _ _ (c .before .before .before .before .step .ensures) (c .before .before .start .given .1) in omega arith
@@ -52,7 +58,15 @@ line-size-requires : tie.Need-line-size-requires Inv-loop μ-loop
 line-size-requires c κs = let w = step-line _ _ (c .before .before .before .before .step .ensures) (c .before .before .start .given .1) in w .short
 
 add-size-2 : tie.Need-add-size-2 Inv-loop μ-loop
-add-size-2 c = omega (arith, size-short (c .before .before .before .before .before .before .before .before .before .before .args .linefeeds) (c .before .before .before .before .before .before .before .before .before .before .args .spaces) (c .before .before .before .before .before .before .before .before .before .before .args .headers) _ _ _ _ _ _ (step-line _ _ (c .before .before .before .before .before .step .ensures) (c .before .before .before .start .given .1)) (c .line-size .ensures))
+add-size-2 c =
+    let at-start = c .before .before .before in
+    let at-step = at-start .before .before in
+    let start = at-step .before .before .before .before .before in
+    omega (
+      arith,
+      size-short (start .args .linefeeds) (start .args .spaces) (start .args .headers) _ _ _ _ _ _ (step-line _ _ (at-step .step .ensures) (at-start .start .given .1))
+          (c .line-size .ensures),
+    )
 
 add-lines : tie.Need-add-lines Inv-loop μ-loop
 add-lines c = search needs
@@ -63,20 +77,38 @@ loop-less c = omega (arith, c .before .if2 .left)
 loop-again : tie.Need-loop-again Inv-loop μ-loop
 loop-again c =
     let inv = c .before .before .before .before .before .before .loop .inv in
-    let w = step-line _ _ (c .before .before .before .before .before .step .ensures) (c .before .before .before .start .given .1) in
-    (omega (arith, c .before .if2 .left), omega (arith, size-short (c .before .before .before .before .before .before .before .before .before .before .args .linefeeds) (c .before .before .before .before .before .before .before .before .before .before .args .spaces) (c .before .before .before .before .before .before .before .before .before .before .args .headers) _ _ _ _ _ _ w (c .line-size .ensures)), sym (size-line _ _ _ _ _ _ _ _ _ _ _ w (c .line-size .ensures) (inv .0) (c .before .if2 .left)) ∙ inv .2)
+    let w = step-line _ _ (c .before .before .before .before .before .step .ensures) (c .before .before .before .start .given .1) in (
+      omega (arith, c .before .if2 .left),
+      omega (
+        arith,
+        size-short (c .before .before .before .before .before .before .before .before .before .before .args .linefeeds)
+            (c .before .before .before .before .before .before .before .before .before .before .args .spaces)
+            (c .before .before .before .before .before .before .before .before .before .before .args .headers) _ _ _ _ _ _ w (c .line-size .ensures),
+      ),
+      sym (size-line _ _ _ _ _ _ _ _ _ _ _ w (c .line-size .ensures) (inv .0) (c .before .if2 .left)) ∙ inv .2,
+    )
 
 enum-told : tie.Need-enum-told Inv-loop μ-loop
 enum-told c = search needs
 
 returns-3 : tie.Need-returns-3 Inv-loop μ-loop
-returns-3 c = sym (size-end (c .before .before .before .before .before .before .before .args .linefeeds) (c .before .before .before .before .before .before .before .args .spaces) (c .before .before .before .before .before .before .before .args .headers) _ (c .before .before .before .loop .size) (c .before .before .before .loop .lines) _ (step-end _ _ (c .before .before .step .ensures) (c .enum-told .given .1))) ∙ c .before .before .before .loop .inv .2
+returns-3 c =
+    let head = c .before .before .before in
+    let start = head .before .before .before .before in
+    sym (size-end (start .args .linefeeds) (start .args .spaces) (start .args .headers) _ (head .loop .size) (head .loop .lines) _
+    (step-end _ _ (c .before .before .step .ensures) (c .enum-told .given .1))) ∙
+    head .loop .inv .2
 
 enum-told-2 : tie.Need-enum-told-2 Inv-loop μ-loop
 enum-told-2 c = search needs
 
 returns-4 : tie.Need-returns-4 Inv-loop μ-loop
-returns-4 c = let n = step-none _ _ (c .before .before .step .ensures) (c .enum-told2 .given .1) in sym (size-bad (c .before .before .before .before .before .before .before .args .linefeeds) (c .before .before .before .before .before .before .before .args .spaces) (c .before .before .before .before .before .before .before .args .headers) _ (c .before .before .before .loop .size) (c .before .before .before .loop .lines) _ (n .0) (n .1)) ∙ c .before .before .before .loop .inv .2
+returns-4 c =
+    let head = c .before .before .before in
+    let start = head .before .before .before .before in
+    let n = step-none _ _ (c .before .before .step .ensures) (c .enum-told2 .given .1) in
+    sym (size-bad (start .args .linefeeds) (start .args .spaces) (start .args .headers) _ (head .loop .size) (head .loop .lines) _ (n .0) (n .1)) ∙
+    head .loop .inv .2
 
 pub reply-size-spec : {M : Type 1} → statement M
 reply-size-spec =

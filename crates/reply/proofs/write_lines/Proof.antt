@@ -43,16 +43,30 @@ part-put-line-text-end c = let w = step-line _ _ (c .before .before .before .bef
 put-line-text-requires : tie.Need-put-line-text-requires Inv-loop μ-loop
 put-line-text-requires c κs =
     let k = c .before .before .before .before .before .before .before .before .before .pre in
-    left-room _ _ _ _ _ (c .before .before .before .before .before .before .loop .inv .1 (k .lines) (k .rest) (k .reads)) _ _ _ (step-line _ _ (c .before .before .before .before .before .step .ensures) (c .before .before .before .ecu .given .1))
+    left-room _ _ _ _ _ (c .before .before .before .before .before .before .loop .inv .1 (k .lines) (k .rest) (k .reads)) _ _ _
+    (step-line _ _ (c .before .before .before .before .before .step .ensures) (c .before .before .before .ecu .given .1))
 
 put-line-ending-requires : tie.Need-put-line-ending-requires Inv-loop μ-loop
 put-line-ending-requires c κs = search needs
 
 loop-less : tie.Need-loop-less Inv-loop μ-loop
-loop-less c = let w = step-line _ _ (c .before .before .before .before .before .before .before .before .before .before .before .before .step .ensures) (c .before .before .before .before .before .before .before .before .before .before .ecu .given .1) in omega arith
+loop-less c =
+    let at-ecu = c .before .before .before .before .before .before .before .before .before .before in
+    let at-step = at-ecu .before .before in
+    let w = step-line _ _ (at-step .step .ensures) (at-ecu .ecu .given .1) in
+    omega arith
 
 loop-again : tie.Need-loop-again Inv-loop μ-loop
-loop-again c = (put-length (c .before .before .put-line-ending .ensures) ∙ put-length (c .before .before .before .before .before .before .put-line-text .ensures) ∙ c .before .before .before .before .before .before .before .before .before .before .before .before .before .loop .inv .0, λ ls rest q. left-next _ _ _ _ _ (c .before .before .before .before .before .before .before .before .before .before .before .before .before .loop .inv .1 ls rest q) _ _ _ (step-line _ _ (c .before .before .before .before .before .before .before .before .before .before .before .before .step .ensures) (c .before .before .before .before .before .before .before .before .before .before .ecu .given .1)) (c .before .before .before .before .before .before .put-line-text .ensures) (c .before .before .put-line-ending .ensures))
+loop-again c =
+    let at-put-line-text = c .before .before .before .before .before .before in
+    let at-ecu = at-put-line-text .before .before .before .before in
+    let at-step = at-ecu .before .before in
+    let head = at-step .before in (
+      put-length (c .before .before .put-line-ending .ensures) ∙ put-length (at-put-line-text .put-line-text .ensures) ∙ head .loop .inv .0,
+      λ ls rest q.
+          left-next _ _ _ _ _ (head .loop .inv .1 ls rest q) _ _ _ (step-line _ _ (at-step .step .ensures) (at-ecu .ecu .given .1)) (at-put-line-text .put-line-text .ensures)
+          (c .before .before .put-line-ending .ensures),
+    )
 
 enum-told : tie.Need-enum-told Inv-loop μ-loop
 enum-told c = search needs
@@ -64,7 +78,12 @@ same-length : tie.Need-same-length Inv-loop μ-loop
 same-length c = put-length (c .before .before .put-prompt .ensures) ∙ c .before .before .before .before .before .before .before .loop .inv .0
 
 returns : tie.Need-returns Inv-loop μ-loop
-returns c = λ ls rest q. let e = left-end _ _ _ _ _ (c .before .before .before .before .before .before .before .loop .inv .1 ls rest q) (step-end _ _ (c .before .before .before .before .before .before .step .ensures) (c .before .before .before .before .enum-told .given .1)) (c .before .before .put-prompt .ensures) in record { next = e .0; bytes = e .1 }
+returns c =
+    let at-enum-told = c .before .before .before .before in
+    let at-step = at-enum-told .before .before in
+    let head = at-step .before in
+    λ ls rest q. let e = left-end _ _ _ _ _ (head .loop .inv .1 ls rest q) (step-end _ _ (at-step .step .ensures) (at-enum-told .enum-told .given .1))
+    (c .before .before .put-prompt .ensures) in record { next = e .0; bytes = e .1 }
 
 enum-told-2 : tie.Need-enum-told-2 Inv-loop μ-loop
 enum-told-2 c = search needs
@@ -73,7 +92,9 @@ same-length-2 : tie.Need-same-length-2 Inv-loop μ-loop
 same-length-2 c = c .before .before .before .loop .inv .0
 
 returns-2 : tie.Need-returns-2 Inv-loop μ-loop
-returns-2 c = λ ls rest q. let n = step-none _ _ (c .before .before .step .ensures) (c .enum-told2 .given .1) in absurd (left-bad _ _ _ _ _ (c .before .before .before .loop .inv .1 ls rest q) (n .0) (n .1))
+returns-2 c =
+    let head = c .before .before .before in
+    λ ls rest q. let n = step-none _ _ (c .before .before .step .ensures) (c .enum-told2 .given .1) in absurd (left-bad _ _ _ _ _ (head .loop .inv .1 ls rest q) (n .0) (n .1))
 
 pub write-lines-spec : {M : Type 1} → statement M
 write-lines-spec =

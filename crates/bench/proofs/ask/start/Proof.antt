@@ -19,7 +19,9 @@ same-length c = search needs
 
 returns : tie.Need-returns
 returns c = let a = c .before .before .before .before .before .before .before .before .before .args in
-    one-started (client (a .session)) (a .count) (a .out .now) (a .pids .now) _ (c .before .before .before .before .before .before .ecu-count .ensures) (c .before .before .before .before .before .before .before .before .before .pre .1) (c .before .before .query-pid .result) (c .before .before .query-pid .last .1 .1 .1 .0) (c .before .before .before .before .before .if1 .taken) (c .before .before .query-pid .ensures)
+    one-started (client (a .session)) (a .count) (a .out .now) (a .pids .now) _ (c .before .before .before .before .before .before .ecu-count .ensures)
+    (c .before .before .before .before .before .before .before .before .before .pre .1) (c .before .before .query-pid .result) (c .before .before .query-pid .last .1 .1 .1 .0)
+    (c .before .before .before .before .before .if1 .taken) (c .before .before .query-pid .ensures)
 
 query-pids-requires : tie.Need-query-pids-requires
 query-pids-requires c κs = search needs
@@ -29,7 +31,9 @@ same-length-2 c = search needs
 
 returns-2 : tie.Need-returns-2
 returns-2 c = let a = c .before .before .before .before .before .before .before .before .args in
-    several-started (client (a .session)) (a .count) (a .out .now) (a .pids .now) _ (c .before .before .before .before .before .ecu-count .ensures) (c .before .before .before .before .before .before .before .before .pre .1) (c .before .before .query-pids .result) (c .before .before .query-pids .last .1 .1 .1 .0) (c .before .before .before .before .if1 .left) (c .before .before .query-pids .ensures)
+    several-started (client (a .session)) (a .count) (a .out .now) (a .pids .now) _ (c .before .before .before .before .before .ecu-count .ensures)
+    (c .before .before .before .before .before .before .before .before .pre .1) (c .before .before .query-pids .result) (c .before .before .query-pids .last .1 .1 .1 .0)
+    (c .before .before .before .before .if1 .left) (c .before .before .query-pids .ensures)
 
 pub start-spec : {M : Type 1} → statement M
 start-spec =

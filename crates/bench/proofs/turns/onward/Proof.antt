@@ -34,7 +34,9 @@ same-length-3 : tie.Need-same-length-3 Inv-loop μ-loop
 same-length-3 c = search needs
 
 returns : tie.Need-returns Inv-loop μ-loop
-returns c = held-does (held-then (c .before .before .before .loop .inv .0) (onward-stops (c .before .before .before .loop .left) _ _ (sym (c .before .is-sent .ensures) ∙ not-true _ (c .if1 .taken)))) (c .before .before .before .loop .inv .1) (c .before .before .before .loop .inv .2)
+returns c =
+    let head = c .before .before .before in
+    held-does (held-then (head .loop .inv .0) (onward-stops (head .loop .left) _ _ (sym (c .before .is-sent .ensures) ∙ not-true _ (c .if1 .taken)))) (head .loop .inv .1) (head .loop .inv .2)
 
 turn-requires : tie.Need-turn-requires Inv-loop μ-loop
 turn-requires c κs = (c .before .before .before .before .before .before .before .loop .inv .1, c .before .before .before .before .before .before .before .loop .inv .2)
@@ -46,7 +48,18 @@ loop-less : tie.Need-loop-less Inv-loop μ-loop
 loop-less c = search needs
 
 loop-again : tie.Need-loop-again Inv-loop μ-loop
-loop-again c = (held-then (c .before .before .before .before .before .before .before .before .before .before .before .before .before .before .loop .inv .0) (held-then (onward-goes (c .before .before .before .before .before .before .before .before .before .before .before .before .before .before .loop .left) _ _ (c .before .before .before .before .before .before .before .before .before .before .before .before .before .loop-test .taken) (sym (c .before .before .before .before .before .before .before .before .before .before .before .before .is-sent .ensures) ∙ not-false _ (c .before .before .before .before .before .before .before .before .before .before .before .if1 .left))) (onward-held (c .before .before .before .before .before .before .before .before .before .before .before .before .before .before .loop .left - 1) _ (does-held (c .before .before .before .before .before .before .turn .ensures)))), c .before .before .before .before .before .before .turn .ensures .inside, c .before .before .before .before .before .before .turn .ensures .room, search needs)
+loop-again c =
+    let at-turn = c .before .before .before .before .before .before in
+    let at-if1 = at-turn .before .before .before .before .before in
+    let at-is-sent = at-if1 .before in
+    let at-loop-test = at-is-sent .before in
+    let head = at-loop-test .before in (
+      held-then (head .loop .inv .0) (held-then (onward-goes (head .loop .left) _ _ (at-loop-test .loop-test .taken)
+          (sym (at-is-sent .is-sent .ensures) ∙ not-false _ (at-if1 .if1 .left))) (onward-held (head .loop .left - 1) _ (does-held (at-turn .turn .ensures)))),
+      at-turn .turn .ensures .inside,
+      at-turn .turn .ensures .room,
+      search needs,
+    )
 
 same-length-4 : tie.Need-same-length-4 Inv-loop μ-loop
 same-length-4 c = search needs

@@ -56,7 +56,9 @@ returns c =
     (x .fresh-exchange .result) (p .one-piece .result) (s .pre .0 .1) (s .pre .1) (x .fresh-exchange .ensures) (p .one-piece .ensures)
 
 same-length : tie.Need-same-length
-same-length c = omega (arith, returns c [] .room .0, c .before .before .before .before .before .before .before .before .before .before .before .before .before .before .before .before .before .before .before .before .before .before .pre .0 .0)
+same-length c =
+    let start = c .before .before .before .before .before .before .before .before .before .before .before .before .before .before .before .before .before .before .before .before .before .before in
+    omega (arith, returns c [] .room .0, start .pre .0 .0)
 
 same-length-2 : tie.Need-same-length-2
 same-length-2 c = search needs
