@@ -33,6 +33,14 @@ pub data Progress : Type 0 where
   -- a query is finished, with so many values
   values : ℕ → Progress
 
+-- how many values a result tells of
+abbrev pub valueCount : Progress → ℕ
+valueCount sent = 0
+valueCount awaited = 0
+valueCount over = 0
+valueCount complete = 0
+valueCount (values n) = n
+
 -- What a call says: its result or number, the next session, and the bytes for the lent out buffer.
 pub record ClientSaid : Type 0 where
   pub answer : Answer Progress

@@ -16,7 +16,7 @@ use Rattle.client_session.specs.declared.Under.{Under}
 use Rattle.client_session.specs.declared.Under.the-variants as under
 use Rattle.client_session.specs.declared.Failure.the-variants as failure
 use Rattle.client_session.specs.Session.{Client, client}
-use Rattle.client_session.specs.Call.{Progress, sent, awaited, over, complete, values, ClientServed, clientLent}
+use Rattle.client_session.specs.Call.{Progress, sent, awaited, over, complete, values, valueCount, ClientServed, clientLent}
 use Rattle.client_session.specs.Start.{initSays, commandSays, querySays}
 use Rattle.client_session.specs.Piece.{pieceSays, storeAfter, failureSays}
 use Rattle.client_session.specs.Finish.{finishSays}
@@ -38,13 +38,9 @@ stepCode (result (values n)) = 64
 stepCode (refused n) = n
 
 -- how many values a finish gave
-abbrev pub valueCount : Answer Progress → ℕ
-valueCount (result sent) = 0
-valueCount (result awaited) = 0
-valueCount (result over) = 0
-valueCount (result complete) = 0
-valueCount (result (values n)) = n
-valueCount (refused n) = 0
+abbrev pub countEntry : Answer Progress → ℕ
+countEntry (result p) = valueCount p
+countEntry (refused n) = 0
 
 abbrev pub supportCode : FeatureSupport → ℕ
 supportCode support.Unknown = 0
@@ -94,7 +90,7 @@ pieceNoted t r store = record { turn = answered (t .turn .at) (t .turn .log) (st
 
 abbrev pub finishNoted : Stored → ClientServed → Stored
 finishNoted t r = record {
-  turn = answered (t .turn .at) (t .turn .log) (stepCode (r .answer)) (valueCount (r .answer)) (r .written) (r .next) (r .out);
+  turn = answered (t .turn .at) (t .turn .log) (stepCode (r .answer)) (countEntry (r .answer)) (r .written) (r .next) (r .out);
   store = t .store;
 }
 

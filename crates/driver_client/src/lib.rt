@@ -17,7 +17,7 @@ ghost use Rattle.client_session.specs.Session.{client, freshClient};
 ghost use Rattle.client_session.specs.Call.{clientAnswer};
 ghost use Rattle.driver_log.specs.Log.{textEntry};
 ghost use Rattle.driver_log.specs.Script.{calls, rounds};
-ghost use Rattle.driver_client.specs.Client.{startCode, stepCode, valueCount, supportCode, commandCode, underCode, lengthNumber, pidsEntry, stateEntry, countGiven, rareCall, clientCall, clientTurn, clientAt, clientRun, storedOf, storedAs};
+ghost use Rattle.driver_client.specs.Client.{startCode, stepCode, countEntry, supportCode, commandCode, underCode, lengthNumber, pidsEntry, stateEntry, countGiven, rareCall, clientCall, clientTurn, clientAt, clientRun, storedOf, storedAs};
 
 // A session after some calls of a script, and the position in the log after their entries.
 struct ClientTurn {
@@ -56,7 +56,7 @@ fn step_code(answer: ClientAnswer) -> u8
 
 // How many values a finish gave.
 fn value_count(answer: ClientAnswer) -> usize
-    ensures { λ r. ⌜ r ≡ valueCount (clientAnswer answer) ⌝ }
+    ensures { λ r. ⌜ r ≡ countEntry (clientAnswer answer) ⌝ }
 {
     match answer {
         ClientAnswer::Sent => 0,

@@ -1,5 +1,6 @@
 -- `bench::run` meets its contract.
 use borrow.Author.Needs.{needs}
+use Rattle.wire.specs.declared.Refusal.the-variants.{TooLong, Malformed}
 use Rattle.script.proofs.CheckLaws.{check-queries, check-long, check-none}
 use Rattle.bench.proofs.RunLaws.{script-refused}
 use Rattle.bench.proofs.run.Statement.{statement}
@@ -39,14 +40,14 @@ returns-2 : tie.Need-returns-2
 returns-2 c =
     let m = c .before .before .before in
     let s = m .before .before .before .before in
-    script-refused (s .args .repeat) (s .args .lengths .now) (s .args .script .now) (s .args .buffer .now) 3 (c .refused .result)
+    script-refused (s .args .repeat) (s .args .lengths .now) (s .args .script .now) (s .args .buffer .now) TooLong (c .refused .result)
     (check-long (s .args .script .now) (m .check-script .ensures) (c .before .enum-told2 .given .1)) (c .refused .ensures)
 
 returns-3 : tie.Need-returns-3
 returns-3 c =
     let m = c .before .before .before in
     let s = m .before .before .before .before in
-    script-refused (s .args .repeat) (s .args .lengths .now) (s .args .script .now) (s .args .buffer .now) 5 (c .refused2 .result)
+    script-refused (s .args .repeat) (s .args .lengths .now) (s .args .script .now) (s .args .buffer .now) Malformed (c .refused2 .result)
     (check-none (s .args .script .now) (m .check-script .ensures) (c .before .enum-told3 .given .1)) (c .refused2 .ensures)
 
 pub run-spec : {M : Type 1} → statement M

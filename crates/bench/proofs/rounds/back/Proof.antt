@@ -1,10 +1,10 @@
--- `bench::turns::back` meets its contract.
+-- `bench::rounds::back` meets its contract.
 use mathlib.Core.Path.{_≡_}
 use lib.ListN.{length, drop}
 use borrow.Author.Needs.{needs}
-use Rattle.bench.proofs.TurnLaws.{back-does}
-use Rattle.bench.proofs.turns.back.Statement.{statement}
-use Rattle.bench.proofs.turns.back.Tie as tie
+use Rattle.bench.proofs.RoundLaws.{back-does}
+use Rattle.bench.proofs.rounds.back.Statement.{statement}
+use Rattle.bench.proofs.rounds.back.Tie as tie
 
 -- a query's text has a place for 18 bytes: what owning the session tells of its field query
 short : (s : tie.Start) → length (s .args .session .query .bytes) ≡ 18

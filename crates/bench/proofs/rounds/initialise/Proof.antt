@@ -1,9 +1,9 @@
--- `bench::turns::initialise` meets its contract.
+-- `bench::rounds::initialise` meets its contract.
 use mathlib.Core.List.{[]}
 use borrow.Author.Needs.{needs}
 use Rattle.bench.proofs.InitLaws.{initialised-does}
-use Rattle.bench.proofs.turns.initialise.Statement.{statement}
-use Rattle.bench.proofs.turns.initialise.Tie as tie
+use Rattle.bench.proofs.rounds.initialise.Statement.{statement}
+use Rattle.bench.proofs.rounds.initialise.Tie as tie
 
 slice-aggregate-reset : tie.Need-slice-aggregate-reset
 slice-aggregate-reset c = search needs

@@ -1,8 +1,8 @@
--- `bench::turns::send_reset` meets its contract.
+-- `bench::rounds::send_reset` meets its contract.
 use Rattle.bench.proofs.InitLaws.{reset-sent}
 use borrow.Author.Needs.{needs}
-use Rattle.bench.proofs.turns.send_reset.Statement.{statement}
-use Rattle.bench.proofs.turns.send_reset.Tie as tie
+use Rattle.bench.proofs.rounds.send_reset.Statement.{statement}
+use Rattle.bench.proofs.rounds.send_reset.Tie as tie
 
 new-requires : tie.Need-new-requires
 new-requires c κs = search needs
@@ -18,7 +18,7 @@ returns c =
     let i = c .before .before in
     let n = i .before .before in
     let s = n .before .before in
-    reset-sent (s .args .repeat) (s .args .out .now) _ (n .new .result) (i .init .result) (s .pre) (n .new .ensures) (i .init .ensures)
+    reset-sent (s .args .repeat) (s .args .out .now) _ (n .new .result) (i .init .result) (s .pre) (n .new .ensures) (i .init .ensures .0)
 
 pub send-reset-spec : {M : Type 1} → statement M
 send-reset-spec = tie.close (tie.spec new-requires init-requires same-length returns)

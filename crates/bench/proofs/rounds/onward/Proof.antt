@@ -1,18 +1,18 @@
--- `bench::turns::onward` meets its contract.
+-- `bench::rounds::onward` meets its contract.
 use borrow.Author.Tests.{not-true, not-false}
 use Rattle.bench.proofs.OnwardLaws.{Held, held-same, held-then, held-does, does-held, onward-held, onward-stops, onward-goes, onward-ended}
-use Rattle.bench.specs.Steps.{turnOf, Room}
+use Rattle.bench.specs.Steps.{roundOf, Room}
 use Rattle.bench.specs.Run.{onward}
 use lib.ListN.{length}
 use Prim.Native.Nat.{_-_, _≤_}
 use mathlib.Core.Path.{_≡_, sym, _∙_}
 use borrow.Author.Needs.{needs}
-use Rattle.bench.proofs.turns.onward.Statement.{statement}
-use Rattle.bench.proofs.turns.onward.Tie as tie
+use Rattle.bench.proofs.rounds.onward.Statement.{statement}
+use Rattle.bench.proofs.rounds.onward.Tie as tie
 
 abbrev Inv-loop : tie.InvT-loop
 Inv-loop at₀ n list lengths out₀ reply₀ store₀ left₀ at out reply store left =
-    Held (onward n (turnOf at₀ out₀ store₀ lengths) list) (onward left (turnOf at out store lengths) list) ×
+    Held (onward n (roundOf at₀ out₀ store₀ lengths) list) (onward left (roundOf at out store lengths) list) ×
     (at .written ≤ length out) × Room out reply × (length store ≡ length store₀)
 
 abbrev μ-loop : tie.MeasureT-loop
@@ -38,8 +38,8 @@ returns c =
     let head = c .before .before .before in
     held-does (held-then (head .loop .inv .0) (onward-stops (head .loop .left) _ _ (sym (c .before .is-sent .ensures) ∙ not-true _ (c .if1 .taken)))) (head .loop .inv .1) (head .loop .inv .2)
 
-turn-requires : tie.Need-turn-requires Inv-loop μ-loop
-turn-requires c κs = (c .before .before .before .before .before .before .before .loop .inv .1, c .before .before .before .before .before .before .before .loop .inv .2)
+round-requires : tie.Need-round-requires Inv-loop μ-loop
+round-requires c κs = (c .before .before .before .before .before .before .before .loop .inv .1, c .before .before .before .before .before .before .before .loop .inv .2)
 
 sub-left : tie.Need-sub-left Inv-loop μ-loop
 sub-left c = search needs
@@ -49,15 +49,15 @@ loop-less c = search needs
 
 loop-again : tie.Need-loop-again Inv-loop μ-loop
 loop-again c =
-    let at-turn = c .before .before .before .before .before .before in
-    let at-if1 = at-turn .before .before .before .before .before in
+    let at-round = c .before .before .before .before .before .before in
+    let at-if1 = at-round .before .before .before .before .before in
     let at-is-sent = at-if1 .before in
     let at-loop-test = at-is-sent .before in
     let head = at-loop-test .before in (
       held-then (head .loop .inv .0) (held-then (onward-goes (head .loop .left) _ _ (at-loop-test .loop-test .taken)
-          (sym (at-is-sent .is-sent .ensures) ∙ not-false _ (at-if1 .if1 .left))) (onward-held (head .loop .left - 1) _ (does-held (at-turn .turn .ensures)))),
-      at-turn .turn .ensures .inside,
-      at-turn .turn .ensures .room,
+          (sym (at-is-sent .is-sent .ensures) ∙ not-false _ (at-if1 .if1 .left))) (onward-held (head .loop .left - 1) _ (does-held (at-round .round .ensures)))),
+      at-round .round .ensures .inside,
+      at-round .round .ensures .room,
       search needs,
     )
 
@@ -85,7 +85,7 @@ onward-spec =
     same-length-2
     same-length-3
     returns
-    turn-requires
+    round-requires
     sub-left
     loop-less
     loop-again

@@ -1,4 +1,4 @@
--- `bench::turns::reset` meets its contract.
+-- `bench::rounds::reset` meets its contract.
 use Prim.Native.Nat.{_≤_}
 use mathlib.Core.Path.{sym}
 use native.Mathlib.Omega.{arith}
@@ -6,11 +6,11 @@ use mathlib.Core.List.{[]}
 use lib.ListN.{length, take}
 use lib.Seq.{length-take-le}
 use Rattle.server_session.specs.Session.{freshSession}
-use Rattle.bench.proofs.TurnLaws.{reply-inside}
+use Rattle.bench.proofs.RoundLaws.{reply-inside}
 use Rattle.bench.proofs.InitLaws.{init-inside, reset-does}
 use borrow.Author.Needs.{needs}
-use Rattle.bench.proofs.turns.reset.Statement.{statement}
-use Rattle.bench.proofs.turns.reset.Tie as tie
+use Rattle.bench.proofs.rounds.reset.Statement.{statement}
+use Rattle.bench.proofs.rounds.reset.Tie as tie
 
 -- the client's ATZ is inside its buffer
 started : (k : tie.After-send-reset) → k .send-reset .result .written ≤ length (k .send-reset .last .1 .0)

@@ -1,13 +1,13 @@
--- `bench::turns::turn` meets its contract.
+-- `bench::rounds::round` meets its contract.
 use mathlib.Core.Path.{sym}
 use Prim.Native.Nat.{_≤_}
 use lib.ListN.{length, take}
 use lib.Seq.{length-take-le}
 use borrow.Author.Needs.{needs}
 use Rattle.server_session.specs.Session.{session}
-use Rattle.bench.proofs.TurnLaws.{reply-inside, turn-does}
-use Rattle.bench.proofs.turns.turn.Statement.{statement}
-use Rattle.bench.proofs.turns.turn.Tie as tie
+use Rattle.bench.proofs.RoundLaws.{reply-inside, round-does}
+use Rattle.bench.proofs.rounds.round.Statement.{statement}
+use Rattle.bench.proofs.rounds.round.Tie as tie
 
 -- what the server sent is inside its buffer
 inside : (k : tie.After-exchange) → k .exchange .result .written ≤ length (k .exchange .last .1 .1 .1 .0)
@@ -49,11 +49,11 @@ returns c =
     let d = c .before .before .before .before in
     let x = d .before .before .before .before .before .before .before in
     let s = x .before .before .before .before .before .before .before .before .before .before in
-    turn-does (s .args .bench) (take (s .args .n) (s .args .out .now)) (s .args .list .now) (s .args .lengths .now) (s .args .reply .now) (s .args .store .now) _ _ _
+    round-does (s .args .bench) (take (s .args .n) (s .args .out .now)) (s .args .list .now) (s .args .lengths .now) (s .args .reply .now) (s .args .store .now) _ _ _
     (x .exchange .result) (d .back .result) (s .pre .1 .1) (x .exchange .ensures) (d .back .ensures)
 
-pub turn-spec : {M : Type 1} → statement M
-turn-spec =
+pub round-spec : {M : Type 1} → statement M
+round-spec =
     tie.close
     (tie.spec
     slice-reshare-prefix-exchange

@@ -5,15 +5,14 @@ use Prim.Native.Nat.{ℕ, _≤_}
 use native.Mathlib.Omega.{arith}
 use lib.ListN.{length, take, drop}
 use lib.Seq.{sets, take-all, length-sets}
-use Rattle.wire.specs.Call.{Said, Served, lent}
 use Rattle.wire.specs.Put.{Put}
 use Rattle.wire.proofs.PutLaws.{put-front}
 use Rattle.query_text.proofs.KeptLaws.{text-short}
 use Rattle.server_session.specs.declared.ServerSession.{ServerSession}
 use Rattle.server_session.specs.Session.{Session, session}
 use Rattle.client_session.specs.declared.ClientSession.{ClientSession}
-use Rattle.client_session.specs.Session.{Client, client}
-use Rattle.client_session.specs.Piece.{Progress}
+use Rattle.client_session.specs.Session.{client}
+use Rattle.client_session.specs.Call.{ClientSaid, ClientServed, clientLent}
 use Rattle.bench.specs.declared.ExchangeStep.{ExchangeStep}
 use Rattle.bench.specs.declared.Delivery.{Delivery}
 use Rattle.bench.specs.Exchange.{Exchanged, exchanged}
@@ -21,9 +20,9 @@ use Rattle.bench.specs.Deliver.{Delivered, delivered}
 use Rattle.bench.proofs.ExchangeLaws.{exchanged-fits, exchange-written}
 use Rattle.bench.proofs.DeliverLaws.{delivered-fits}
 use Rattle.bench.specs.declared.Bench as code
-use Rattle.bench.specs.declared.Turn as code-turn
-use Rattle.bench.specs.Run.{sendRoom, replyRoom, turn}
-use Rattle.bench.specs.Steps.{ExchangeServed, exchangeStep, exchangeLent, DeliveryServed, deliveryStep, deliveryLent, benchOf, Back, Does}
+use Rattle.bench.specs.declared.Round as code-round
+use Rattle.bench.specs.Run.{sendRoom, replyRoom, round}
+use Rattle.bench.specs.Steps.{ExchangeServed, exchangeStep, exchangeLent, DeliveryServed, deliveryStep, deliveryLent, benchOf, Back, RoundDoes}
 
 -- a text that fits stands at the front of a buffer
 pub front : (buffer text : List ℕ) → length text ≤ length buffer → take (length text) (sets buffer 0 text) ≡ text
@@ -32,16 +31,16 @@ front buffer text h =
     put-front put ∙ take-all (length buffer) text h
 
 -- so does what a call on the client says
-module _ {A : Type 0} (d : Said Client A) (out : List ℕ) (v : Served Client A) (e : v ≡ lent d out) where
+module _ (d : ClientSaid) (out : List ℕ) (v : ClientServed) (e : v ≡ clientLent d out) where
   pub lent-length : length (v .out) ≡ length out
-  lent-length = ap (λ (x : Served Client A). length (x .out)) e ∙ length-sets out 0 (d .text)
+  lent-length = ap (λ (x : ClientServed). length (x .out)) e ∙ length-sets out 0 (d .text)
 
   module _ (fits : length (d .text) ≤ length out) where
     pub lent-text : take (v .written) (v .out) ≡ d .text
     lent-text = (λ i. take (e i .written) (e i .out)) ∙ front out (d .text) fits
 
     pub lent-inside : v .written ≤ length (v .out)
-    lent-inside = let w : v .written ≡ length (d .text) = ap (λ (x : Served Client A). x .written) e in omega (arith, fits, lent-length)
+    lent-inside = let w : v .written ≡ length (d .text) = ap (λ (x : ClientServed). x .written) e in omega (arith, fits, lent-length)
 
 -- what the server sent stands in its buffer
 module _ (s : Session) (command list reply reply₁ : List ℕ) (x : ExchangeStep) (e : exchangeStep x reply₁ ≡ exchangeLent (exchanged (length reply) s command list) reply) where
@@ -64,13 +63,13 @@ module _ (c : ClientSession) (short : length (c .query .bytes) ≡ 18) (server :
   said : deliveryStep lengths d store₁ out₁ ≡ deliveryLent (delivered sendRoom (client c) store ks r) out
   said = e ∙ ap (λ n. deliveryLent (delivered n (client c) store ks r) out) size
 
-  abbrev says : Said Client Progress
+  abbrev says : ClientSaid
   says = delivered sendRoom (client c) store ks r .said
 
-  abbrev served : Served Client Progress
+  abbrev served : ClientServed
   served = deliveryStep lengths d store₁ out₁ .served
 
-  does : served ≡ lent says out
+  does : served ≡ clientLent says out
   does = ap (λ (v : DeliveryServed). v .served) said
 
   next-fits : length (says .text) ≤ length out
@@ -90,7 +89,7 @@ module _ (c : ClientSession) (short : length (c .query .bytes) ≡ 18) (server :
   }
 
 -- the two together
-module _ (b : code.Bench) (command list lengths reply store out₁ reply₁ store₁ : List ℕ) (x : ExchangeStep) (r : code-turn.Turn) (size : length reply ≡ replyRoom)
+module _ (b : code.Bench) (command list lengths reply store out₁ reply₁ store₁ : List ℕ) (x : ExchangeStep) (r : code-round.Round) (size : length reply ≡ replyRoom)
     (heard : exchangeStep x reply₁ ≡ exchangeLent (exchanged (length reply) (session (b .server)) command list) reply)
     (given : Back (delivered sendRoom (client (b .client)) store (drop (b .used) lengths) (take (x .written) reply₁)) (x .session) r out₁ store₁ lengths) where
   abbrev exchanges : Exchanged
@@ -104,8 +103,8 @@ module _ (b : code.Bench) (command list lengths reply store out₁ reply₁ stor
       ap (delivered sendRoom (client (b .client)) store (drop (b .used) lengths))
       (reply-text (session (b .server)) command list reply reply₁ x heard ∙ ap (λ n. exchanged n (session (b .server)) command list .text) size)
 
-  pub turn-does : Does (turn (benchOf b store lengths) command list) r out₁ reply₁ store₁ lengths
-  turn-does =
+  pub round-does : RoundDoes (round (benchOf b store lengths) command list) r out₁ reply₁ store₁ lengths
+  round-does =
       let c = given .next ∙ ap (λ (v : Delivered). v .said .next) delivers-is in
       let k = given .kept ∙ ap (λ (v : Delivered). v .store) delivers-is in
       let l = given .left ∙ ap (λ (v : Delivered). v .lengths) delivers-is in

@@ -1,8 +1,8 @@
--- `bench::turns::fresh_exchange` meets its contract.
+-- `bench::rounds::fresh_exchange` meets its contract.
 use Rattle.bench.proofs.InitLaws.{fresh-hears}
 use borrow.Author.Needs.{needs}
-use Rattle.bench.proofs.turns.fresh_exchange.Statement.{statement}
-use Rattle.bench.proofs.turns.fresh_exchange.Tie as tie
+use Rattle.bench.proofs.rounds.fresh_exchange.Statement.{statement}
+use Rattle.bench.proofs.rounds.fresh_exchange.Tie as tie
 
 new-requires : tie.Need-new-requires
 new-requires c κs = search needs
