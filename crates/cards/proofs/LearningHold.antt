@@ -1,5 +1,6 @@
 -- The examples of finishing a query hold, by computation.
 use mathlib.Core.Path.{refl}
+use Rattle.wire.specs.Answer.{unless}
 use Rattle.wire.specs.Text.{isSpace, raised, has, high}
 use Rattle.hex.specs.Digits.{hexDigit}
 use Rattle.hex.specs.Read.{digit, leading}
@@ -14,12 +15,12 @@ use Rattle.reply_values.specs.Values.{walked, answerOrder}
 use Rattle.reply_values.specs.Learn.{learnLength}
 use Rattle.reply_values.specs.Read.{readReply}
 use Rattle.client_command.specs.Commands.{framingEffect}
-use Rattle.client_session.specs.Start.{commandSays, queryPidSays, queryPidsSays}
+use Rattle.client_session.specs.Start.{commandSays, querySays}
 use Rattle.client_session.specs.Piece.{replyTakes, pieceSays}
 use Rattle.client_session.specs.Finish.{finishSays}
 use Rattle.cards.specs.Example.{AsExpected}
 use Rattle.cards.specs.Learning.{learning}
 
 pub learning-holds : AsExpected learning
-unfolding isSpace raised has high hexDigit digit leading j1979 mode01Lengths groupBytes valueBytes queryText textLines textLine replyLines walked answerOrder learnLength readReply framingEffect commandSays queryPidSays queryPidsSays replyTakes pieceSays finishSays
-learning-holds = (refl, (refl, (refl, (refl, (refl, (refl, (refl, (refl, (refl, (refl, (refl, (refl, (refl, (refl, (refl, (refl, (refl, (refl, (refl, (refl, tt))))))))))))))))))))
+unfolding unless isSpace raised has high hexDigit digit leading j1979 mode01Lengths groupBytes valueBytes queryText textLines textLine replyLines walked answerOrder learnLength readReply framingEffect commandSays querySays replyTakes pieceSays finishSays
+learning-holds = (refl, (refl, (refl, (refl, (refl, (refl, (refl, (refl, (refl, (refl, (refl, (refl, (refl, (refl, (refl, (refl, (refl, (refl, (refl, tt)))))))))))))))))))

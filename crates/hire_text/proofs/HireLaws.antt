@@ -7,25 +7,27 @@ use native.Mathlib.Omega.{arith}
 use lib.ListN.{length, take}
 use lib.Seq.{sets, length-sets, take-all}
 use Rattle.wire.specs.Put.{Put}
+use Rattle.wire.specs.declared.Refusal.{Refusal}
+use Rattle.wire.specs.Answer.{number}
 use Rattle.wire.specs.Text.{joined}
 use Rattle.wire.proofs.PutLaws.{put-then, put-front}
 use Rattle.bench.specs.declared.BenchRun.{BenchRun}
 use Rattle.bench.specs.declared.RunAnswer.the-variants as answer
-use Rattle.bench.specs.Run.{runSays, runAnswer, Recorded, recorded, lent}
+use Rattle.bench.specs.Run.{runSays, runAnswer, Recorded, recorded, runLent}
 use Rattle.hire_text.proofs.LineLaws.{run-length}
 use Rattle.hire_text.proofs.StandLaws.{run-fits, run-parts}
 use Rattle.hire_text.specs.Hire.{hexLines, refusedLine, hireRun, hireText}
 use Rattle.hire_text.specs.Steps.{AreParts}
 
 -- what was written stands inside the buffer, in any run
-pub run-inside : (repeat : Bool) (ks s buffer left : List ℕ) (r : BenchRun) → recorded r left ≡ lent (runSays repeat ks (length buffer) s) buffer → r .written ≤ length left
+pub run-inside : (repeat : Bool) (ks s buffer left : List ℕ) (r : BenchRun) → recorded r left ≡ runLent (runSays repeat ks (length buffer) s) buffer → r .written ≤ length left
 run-inside repeat ks s buffer left r e =
     let bytes = joined (runSays repeat ks (length buffer) s .parts) in
     let w : r .written ≡ length bytes = ap (λ (v : Recorded). v .written) e in
     let o : left ≡ sets buffer 0 bytes = ap (λ (v : Recorded). v .out) e in
     omega (arith, run-fits repeat ks (length buffer) s, ap length o, length-sets buffer 0 bytes)
 
-module _ (s buffer left : List ℕ) (r : BenchRun) (e : recorded r left ≡ lent (runSays true [] (length buffer) s) buffer) where
+module _ (s buffer left : List ℕ) (r : BenchRun) (e : recorded r left ≡ runLent (runSays true [] (length buffer) s) buffer) where
   abbrev parts : List (List ℕ)
   parts = hireRun (length buffer) s .parts
 
@@ -53,9 +55,9 @@ module _ (s buffer left : List ℕ) (r : BenchRun) (e : recorded r left ≡ lent
     text-complete c = rw (← says, c, append-nil (hexLines parts)) lines-put
 
     -- or one
-    pub text-refused : {out₂ : List ℕ} {m k : ℕ} → r .answer ≡ answer.Refused k → Put out₁ n (refusedLine k) m out₂ → Put out 0 (hireText (length buffer) s) m out₂
+    pub text-refused : {out₂ : List ℕ} {m k : ℕ} {q : Refusal} → r .answer ≡ answer.Refused q → k ≡ number q → Put out₁ n (refusedLine k) m out₂ → Put out 0 (hireText (length buffer) s) m out₂
     unfolding hireText
-    text-refused c q = rw (← says, c) (put-then lines-put q)
+    text-refused c same put = rw (← says, c, ← same) (put-then lines-put put)
 
 -- three characters for each byte of a record buffer, and 12 for a number, are enough
 pub text-length : (room : ℕ) (s : List ℕ) → length (hireText room s) ≤ 3 * room + 12

@@ -98,6 +98,6 @@ pub fn hire_text(script: &[u8], buffer: &mut [u8], out: &mut [u8]) -> usize
     let last = put_parts(out, 0, &buffer[..end]);
     match answer {
         RunAnswer::Complete => last,
-        RunAnswer::Refused(number) => put_refused(out, last, number),
+        RunAnswer::Refused(refusal) => put_refused(out, last, wire::number(refusal)),
     }
 }
