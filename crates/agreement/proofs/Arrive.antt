@@ -1,6 +1,6 @@
 -- What the bench run's delivery of a reply comes to, whatever the piece lengths: a reply of at most 4,096 bytes completes, a longer one gets 8.
 use mathlib.Core.Path.{_≡_, refl, sym, ap, _∙_}
-use mathlib.Core.Bool.{true, false}
+use mathlib.Core.Bool.{true, false, cond}
 use mathlib.Core.List.{List, [], _∷_, _++_, append-assoc}
 use Prim.Native.Nat.{ℕ, _+_, _≤_, _<_}
 use native.Mathlib.Omega.{arith}
@@ -9,7 +9,6 @@ use lib.ListN.{length, take, length-append}
 use lib.Seq.{sets}
 use borrow.Author.Tests.{ltb-true, ltb-false}
 use Rattle.wire.specs.Answer.{refused}
-use Rattle.wire.specs.Call.{Said}
 use Rattle.wire.specs.Text.{ascii, has, high, joined}
 use Rattle.wire.proofs.Cases.{by-test, or-none}
 use Rattle.wire.proofs.TextLaws.{has-append, high-append}
@@ -17,13 +16,16 @@ use Rattle.hex.specs.Digits.{hexDigit}
 use Rattle.line_list.specs.Lines.{Line}
 use Rattle.reply.specs.Reply.{replyText}
 use Rattle.reply.proofs.ByteLaws.{replyBody, reply-prompt, body-none, body-prompt}
+use Rattle.client_session.specs.declared.Command.{Command}
+use Rattle.client_session.specs.declared.Under.the-variants as under
 use Rattle.client_session.specs.Session.{Client, withUnder}
-use Rattle.client_session.specs.Piece.{Progress, completed, failing, replyIn, pieceSays, stored}
-use Rattle.client_session.specs.Pieces.{Fed, feedOn, fed, Sized}
+use Rattle.client_session.specs.Call.{ClientSaid, clientFailing}
+use Rattle.client_session.specs.Piece.{completed, replyIn, pieceSays, storeAfter}
+use Rattle.client_session.specs.Pieces.{awaits, Fed, fed}
 use Rattle.client_session.proofs.PieceLaws.{takes-too-much, piece-joined}
 use Rattle.client_session.proofs.StoreLaws.{store-holds, reply-in}
 use Rattle.client_session.proofs.PiecesLaws as inPieces
-use Rattle.client_session.proofs.PiecesLaws.{Awaiting, Plainly, prompted, piece-more, piece-stored, awaiting-more, all-of-it}
+use Rattle.client_session.proofs.PiecesLaws.{Sized, Awaiting, Plainly, prompted, piece-more, piece-stored, awaiting-more, all-of-it}
 use Rattle.bench.specs.Deliver.{pieces, delivered}
 use Rattle.bench.proofs.PiecesLaws.{pieces-sized, pieces-joined}
 use Rattle.bench.specs.Run.{sendRoom}
@@ -33,13 +35,13 @@ unfolding has
 none-yet = refl
 
 -- a reply whose last byte alone is a prompt: the session comes out as it completes the whole reply, which stands at the front of the store
-pub arrives : (c : Client) (store ks body : List ℕ) → Awaiting sendRoom c store [] → Plainly body →
-    (delivered sendRoom c store ks (prompted body) .said ≡ completed (c .under) c (prompted body)) ×
+pub arrives : (k : Command) (c : Client) (store ks body : List ℕ) → Awaiting sendRoom k c store [] → Plainly body →
+    (delivered sendRoom c store ks (prompted body) .said ≡ completed k c (prompted body)) ×
     (delivered sendRoom c store ks (prompted body) .store ≡ sets store 0 (prompted body))
 unfolding delivered
-arrives c store ks body w ok =
+arrives k c store ks body w ok =
     let r = prompted body in
-    let e = inPieces.delivered sendRoom c store [] (pieces ks r) body w ok (pieces-sized ks r) none-yet (pieces-joined ks r) in (
+    let e = inPieces.delivered sendRoom k c store [] (pieces ks r) body w ok (pieces-sized ks r) none-yet (pieces-joined ks r) in (
       ap (λ (f : Fed). f .said) e,
       ap (λ (f : Fed). f .store) e ∙ (λ i. sets store (w .got i) (pieces-joined ks r i)),
     )
@@ -53,21 +55,21 @@ reply-stands c store r n short size =
 -- ---- a reply that is too long
 
 -- a piece p of such a reply, of which the store holds st and the pieces ps are still to come
-module _ (room : ℕ) (c : Client) (store st p : List ℕ) (ps : List (List ℕ)) (body : List ℕ)
-    (w : Awaiting room c store st) (prompt : has 62 body ≡ false) (low : high body ≡ false) (long : 4096 ≤ length body)
+module _ (room : ℕ) (k : Command) (c : Client) (store st p : List ℕ) (ps : List (List ℕ)) (body : List ℕ)
+    (w : Awaiting room k c store st) (prompt : has 62 body ≡ false) (low : high body ≡ false) (long : 4096 ≤ length body)
     (z : Sized (p ∷ ps)) (q : st ++ joined (p ∷ ps) ≡ prompted body) where
   rest : (st ++ p) ++ joined ps ≡ prompted body
   rest = append-assoc st p (joined ps) ∙ q
 
-  abbrev step : Said Client Progress → Fed
-  step d = let s = stored (c .under) (d .answer) (c .got) p store in feedOn (d .answer) (record { said = d; store = s; left = ps }) (fed room (d .next) s ps)
+  abbrev step : ClientSaid → Fed
+  step d = let s = storeAfter c (d .answer) p store in cond (awaits (d .answer)) (fed room (d .next) s ps) (record { said = d; store = s; left = ps })
 
   -- the first with which the reply is too long gets 8
   past : 4096 < length st + length p → fed room c store (p ∷ ps) .said .answer ≡ refused 8
   past h =
-      let e : pieceSays room c p store ≡ failing 8 c =
-      piece-joined room c p store (w .turn) (w .out) (w .size) (w .reply) (z .1) ∙ takes-too-much c p store (λ n. omega (arith, z .0)) (omega (arith, w .got)) in
-      ap (λ d. step d .said .answer) e
+      let e : pieceSays room c p store ≡ clientFailing c 8 =
+      piece-joined room c p store (w .turn) (w .reply) (w .out) (w .size) (z .1) ∙ takes-too-much k c p store (λ n. omega (arith, z .0)) (omega (arith, w .got)) in
+      ap (λ (d : ClientSaid). step d .said .answer) e
 
   module _ (fits : length st + length p ≤ 4096) where
     low-yet : high (st ++ p) ≡ false
@@ -83,34 +85,34 @@ module _ (room : ℕ) (c : Client) (store st p : List ℕ) (ps : List (List ℕ)
         absurd (omega (arith, ap length rest, ap length empty, length-append (st ++ p) (joined ps), length-append st p, length-append body (62 ∷ []))))
         (λ e. e)
 
-    within : fed room c store (p ∷ ps) .said .answer ≡ fed room (withUnder c (c .under) (length (st ++ p))) (sets store (c .got) p) ps .said .answer
+    within : fed room c store (p ∷ ps) .said .answer ≡ fed room (withUnder c (under.Awaiting k) (length (st ++ p))) (sets store (c .got) p) ps .said .answer
     within =
-        let d = piece-more room c store st p w (z .0) (z .1) fits low-yet none-in in
-        let s = piece-stored room c store st p w (z .0) (z .1) fits low-yet in
-        λ i. feedOn (d i .answer) (record { said = d i; store = s i; left = ps }) (fed room (d i .next) (s i) ps) .said .answer
+        let d = piece-more room k c store st p w (z .0) (z .1) fits low-yet none-in in
+        let s = piece-stored room k c store st p w (z .0) (z .1) fits low-yet in
+        λ i. cond (awaits (d i .answer)) (fed room (d i .next) (s i) ps) (record { said = d i; store = s i; left = ps }) .said .answer
 
-    later : Awaiting room (withUnder c (c .under) (length (st ++ p))) (sets store (c .got) p) (st ++ p)
-    later = awaiting-more room c store st p w (z .0) (z .1) fits low-yet
+    later : Awaiting room k (withUnder c (under.Awaiting k) (length (st ++ p))) (sets store (c .got) p) (st ++ p)
+    later = awaiting-more room k c store st p w (z .0) (z .1) fits low-yet
 
-fed-overflows : (room : ℕ) (c : Client) (store st : List ℕ) (ps : List (List ℕ)) (body : List ℕ) → Awaiting room c store st → has 62 body ≡ false → high body ≡ false →
-    4096 ≤ length body → length st ≤ 4096 → Sized ps → st ++ joined ps ≡ prompted body → fed room c store ps .said .answer ≡ refused 8
-fed-overflows room c store st [] body w prompt low long few z q = absurd (omega (arith, ap length q, length-append st [], length-append body (62 ∷ [])))
-fed-overflows room c store st (p ∷ ps) body w prompt low long few z q =
+fed-overflows : (room : ℕ) (k : Command) (c : Client) (store st : List ℕ) (ps : List (List ℕ)) (body : List ℕ) → Awaiting room k c store st →
+    has 62 body ≡ false → high body ≡ false → 4096 ≤ length body → length st ≤ 4096 → Sized ps → st ++ joined ps ≡ prompted body → fed room c store ps .said .answer ≡ refused 8
+fed-overflows room k c store st [] body w prompt low long few z q = absurd (omega (arith, ap length q, length-append st [], length-append body (62 ∷ [])))
+fed-overflows room k c store st (p ∷ ps) body w prompt low long few z q =
     by-test (ltb 4096 (length st + length p))
-    (λ t. past room c store st p ps body w prompt low long z q (ltb-true 4096 (length st + length p) t))
+    (λ t. past room k c store st p ps body w prompt low long z q (ltb-true 4096 (length st + length p) t))
     (λ t.
     let fits = ltb-false 4096 (length st + length p) t in
-    within room c store st p ps body w prompt low long z q fits ∙
-    fed-overflows room _ _ (st ++ p) ps body (later room c store st p ps body w prompt low long z q fits) prompt low long
-    (omega (arith, length-append st p)) (z .2) (rest room c store st p ps body w prompt low long z q))
+    within room k c store st p ps body w prompt low long z q fits ∙
+    fed-overflows room k _ _ (st ++ p) ps body (later room k c store st p ps body w prompt low long z q fits) prompt low long
+    (omega (arith, length-append st p)) (z .2) (rest room k c store st p ps body w prompt low long z q))
 
 -- a reply of more than 4,096 bytes gets 8
-pub overflows : (c : Client) (store ks body : List ℕ) → Awaiting sendRoom c store [] → has 62 body ≡ false → high body ≡ false → 4096 ≤ length body →
+pub overflows : (k : Command) (c : Client) (store ks body : List ℕ) → Awaiting sendRoom k c store [] → has 62 body ≡ false → high body ≡ false → 4096 ≤ length body →
     delivered sendRoom c store ks (prompted body) .said .answer ≡ refused 8
 unfolding delivered
-overflows c store ks body w prompt low long =
+overflows k c store ks body w prompt low long =
     let r = prompted body in
-    fed-overflows sendRoom c store [] (pieces ks r) body w prompt low long (omega arith) (pieces-sized ks r) (pieces-joined ks r)
+    fed-overflows sendRoom k c store [] (pieces ks r) body w prompt low long (omega arith) (pieces-sized ks r) (pieces-joined ks r)
 
 -- ---- what the server replies with
 
@@ -136,8 +138,8 @@ unfolding has high
 question-plainly = record { prompt = refl; low = refl; short = omega arith }
 
 -- and a reply to lines, or to none, gets 8 when it has more than 4,096 bytes
-module _ (c : Client) (store ks : List ℕ) (w : Awaiting sendRoom c store []) (ls : List Line) where
+module _ (k : Command) (c : Client) (store ks : List ℕ) (w : Awaiting sendRoom k c store []) (ls : List Line) where
   pub reply-overflows : 4096 < length (replyText false false true ls) → delivered sendRoom c store ks (replyText false false true ls) .said .answer ≡ refused 8
   reply-overflows h =
       rw (reply-prompt false false true ls)
-      (overflows c store ks (replyBody false false true ls) w (body-prompt false false true ls) (body-low ls) (omega (arith, body-length ls)))
+      (overflows k c store ks (replyBody false false true ls) w (body-prompt false false true ls) (body-low ls) (omega (arith, body-length ls)))

@@ -8,7 +8,6 @@ use lib.ListN.{length}
 use lib.Seq.{sets}
 use Rattle.group.specs.Format.{Each}
 use Rattle.wire.specs.Answer.{Answer, result, refused}
-use Rattle.wire.specs.Call.{Said, saying}
 use Rattle.wire.specs.Text.{same}
 use Rattle.wire.proofs.Cases.{by-test, from-no}
 use Rattle.wire.proofs.TextLaws.{same-true}
@@ -23,19 +22,21 @@ use Rattle.reply_values.specs.Values.{answerOrder}
 use Rattle.query.specs.Query.{queryText}
 use Rattle.query.proofs.QueryLaws.{query-some}
 use Rattle.server_state.specs.State.{mayTry}
-use Rattle.client_session.specs.declared.Under.{Under}
+use Rattle.client_session.specs.declared.Command.{Command}
+use Rattle.client_session.specs.declared.Command.the-variants as command
 use Rattle.client_session.specs.declared.Under.the-variants as under
-use Rattle.client_session.specs.Session.{Known, Client}
+use Rattle.client_session.specs.Session.{Client}
+use Rattle.client_session.specs.Call.{Progress, sent, complete, ClientSaid, clientSaying}
 use Rattle.server_session.specs.Session.{Session}
-use Rattle.client_session.specs.Start.{repeats, newQuery, queryStarted}
-use Rattle.client_session.specs.Piece.{Progress, complete, replyIn}
+use Rattle.client_session.specs.Start.{request, sendQuery}
+use Rattle.client_session.specs.Piece.{replyIn}
 use Rattle.client_session.specs.Finish.{finishSays}
-use Rattle.client_session.proofs.StartLaws.{query-repeated, query-in-full}
+use Rattle.client_session.proofs.StartLaws.{repeats, query-repeated, query-in-full}
 use Rattle.client_session.proofs.PiecesLaws.{Awaiting, prompted}
 use Rattle.script.specs.Script.{Query}
 use Rattle.bench.specs.Exchange.{Exchanged, exchanged}
 use Rattle.bench.specs.Run as run
-use Rattle.bench.specs.Run.{sendRoom, replyRoom, valuesRoom, Bench, Turn, turn, onward, startSays, Part, partOf, finished, part}
+use Rattle.bench.specs.Run.{sendRoom, replyRoom, valuesRoom, Bench, Round, round, onward, startSays, Part, partOf, finished, part}
 use Rattle.line_list.proofs.LineLaws.{AllBytes}
 use Rattle.agreement.specs.Lines.{GoodLines}
 use Rattle.agreement.specs.Vehicle.{given}
@@ -94,8 +95,8 @@ module _ (L : ℕ → ℕ) (pids : List ℕ) (count : ℕ) (l : Line) (ls : List
   handing = record { next = quiet (unspaced text); text = reply; handed = unspaced text ∷ [] }
 
   -- the reply is complete
-  abbrev completeTurn : Client → List ℕ → List ℕ → Turn
-  completeTurn c store ks = record {
+  abbrev completeRound : Client → List ℕ → List ℕ → Round
+  completeRound c store ks = record {
     answer = result complete;
     text = [];
     bench = record { client = c; store = store; server = quiet (unspaced text); lengths = ks };
@@ -109,15 +110,15 @@ module _ (L : ℕ → ℕ) (pids : List ℕ) (count : ℕ) (l : Line) (ls : List
   stops (result p) sends b h q r = from-no cc
 
   module _ (ok : Ready query) (good : GoodLines L (l ∷ ls)) where
-    finishes : (c : Client) (store ks : List ℕ) → c .under ≡ under.Complete → c .known .framing ≡ true → c .query .pids ≡ pids → Agree L (c .known .lengths) →
-        4096 ≤ length store → replyIn c store ≡ reply → c .known .last ≡ text → Gives L query (finished (completeTurn c store ks))
+    finishes : (c : Client) (store ks : List ℕ) → c .under ≡ under.Complete → c .server .framing ≡ true → c .query .pids ≡ pids → Agree L (c .server .«pid_lengths») →
+        4096 ≤ length store → replyIn c store ≡ reply → c .last ≡ text → Gives L query (finished (completeRound c store ks))
     finishes c store ks u f p a size r last =
         let g = finish-given L c store l ls (rw u) size f r (ok .fit) (ok .bytes) good (rw p (ok .pids)) a in
         let vs = given (l ∷ ls) in
         let d = finishSays valuesRoom c store in
         let o = g .over in
         record {
-          answer = ap (partOf d) (g .answer) ∙ (λ i. result (groupBytes (sym (answer-reordered vs .count) i) ++ g .text i));
+          answer = ap (λ (a : Answer Progress). partOf a (d .text)) (g .answer) ∙ (λ i. result (groupBytes (sym (answer-reordered vs .count) i) ++ g .text i));
           handed = refl;
           between = record {
             turn = o .under;
@@ -131,34 +132,35 @@ module _ (L : ℕ → ℕ) (pids : List ℕ) (count : ℕ) (l : Line) (ls : List
         }
 
     -- the client has started the query, and waits for its reply
-    module _ (k : Known) (u : Under) (store ks server command : List ℕ) where
-      abbrev taken : Turn
-      taken = turn (replied.bench pids count (l ∷ ls) k u store ks server command) command list
+    module _ (c : Client) (k : Command) (store ks server command : List ℕ) where
+      abbrev taken : Round
+      taken = round (replied.bench pids count (l ∷ ls) c k store ks server command) command list
 
-      module _ (e : exchanged replyRoom (quiet server) command list ≡ handing) (w : Awaiting sendRoom (replied.asks pids count (l ∷ ls) k u) store []) where
+      module _ (e : exchanged replyRoom (quiet server) command list ≡ handing) (w : Awaiting sendRoom k (replied.asks pids count (l ∷ ls) c k) store []) where
         fails : 4096 < length reply → Fails query (finished (onward 1 taken list))
         fails h =
-            stops (taken .answer) (taken .text) (taken .bench) (taken .handed) (replied.reply-fails pids count (l ∷ ls) k u store ks server command handing e refl w h)
+            stops (taken .answer) (taken .text) (taken .bench) (taken .handed) (replied.reply-fails pids count (l ∷ ls) c k store ks server command handing e refl w h)
             (ap (λ (x : Exchanged). x .handed) e)
 
-        gives : (c : Client) (ks′ : List ℕ) → length reply ≤ 4096 → settled (replied.bench pids count (l ∷ ls) k u store ks server command) command list handing body ≡ completeTurn c (sets store 0 (prompted body)) ks′ →
-            Gives L query (finished (completeTurn c (sets store 0 (prompted body)) ks′)) → Gives L query (finished (onward 1 taken list))
-        gives c ks′ h q g =
-            subst (λ (t : Turn). Gives L query (finished (onward 1 t list))) (sym (replied.reply-comes pids count (l ∷ ls) k u store ks server command handing e refl w h ∙ q)) g
+        gives : (d : Client) (ks′ : List ℕ) → length reply ≤ 4096 →
+            settled k (replied.bench pids count (l ∷ ls) c k store ks server command) command list handing body ≡ completeRound d (sets store 0 (prompted body)) ks′ →
+            Gives L query (finished (completeRound d (sets store 0 (prompted body)) ks′)) → Gives L query (finished (onward 1 taken list))
+        gives d ks′ h q g =
+            subst (λ (t : Round). Gives L query (finished (onward 1 t list))) (sym (replied.reply-comes pids count (l ∷ ls) c k store ks server command handing e refl w h ∙ q)) g
 
     module _ (c : Client) (store ks server : List ℕ) (m : Between L (record { client = c; store = store; server = quiet server; lengths = ks })) where
       -- what comes of a start
-      abbrev started : Said Client (Unit {0}) → Part
+      abbrev started : ClientSaid → Part
       started s = finished (run.asking (record { client = c; store = store; server = quiet server; lengths = ks }) s list)
 
-      abbrev Comes : Said Client (Unit {0}) → Type 0
+      abbrev Comes : ClientSaid → Type 0
       Comes s = (length reply ≤ 4096 → Gives L query (started s)) × (4096 < length reply → Fails query (started s))
 
-      abbrev inFull : Said Client (Unit {0})
-      inFull = saying tt (replied.asks pids count (l ∷ ls) (c .known) under.Query) (text ++ (13 ∷ []))
+      abbrev inFull : ClientSaid
+      inFull = clientSaying sent (replied.asks pids count (l ∷ ls) c command.Query) (text ++ (13 ∷ []))
 
-      abbrev byCR : Said Client (Unit {0})
-      byCR = saying tt (replied.asks pids count (l ∷ ls) (c .known) under.Repeat) (13 ∷ [])
+      abbrev byCR : ClientSaid
+      byCR = clientSaying sent (replied.asks pids count (l ∷ ls) c command.Repeat) (13 ∷ [])
 
       abbrev held : List ℕ
       held = sets store 0 (prompted body)
@@ -172,36 +174,37 @@ module _ (L : ℕ → ℕ) (pids : List ℕ) (count : ℕ) (l : Line) (ls : List
       in-full : Comes inFull
       in-full =
           let x = heard pids count (ok .few) (ok .counted) server (l ∷ ls) (ok .fit) (ok .many) in
-          let d = replied.fully pids count (l ∷ ls) (c .known) in
-          let w = replied.waits (replied.asks pids count (l ∷ ls) (c .known) under.Query) store refl refl refl (m .size) in (
+          let d = replied.fully pids count (l ∷ ls) c in
+          let w = replied.waits command.Query (replied.asks pids count (l ∷ ls) c command.Query) store refl refl refl (m .size) in (
             λ h.
-                gives (c .known) under.Query store ks server (text ++ (13 ∷ [])) x w d _ h refl
+                gives c command.Query store ks server (text ++ (13 ∷ [])) x w d _ h refl
                 (finishes d held _ refl (m .framing) refl (m .agree) size (stands d refl h) refl),
-            fails (c .known) under.Query store ks server (text ++ (13 ∷ [])) x w,
+            fails c command.Query store ks server (text ++ (13 ∷ [])) x w,
           )
 
-      repeated : c .known .last ≡ text → Comes byCR
+      repeated : c .last ≡ text → Comes byCR
       repeated last =
-          let there : 0 < length (c .known .last) = rw last (omega (arith, query-some pids count)) in
+          let there : 0 < length (c .last) = rw last (omega (arith, query-some pids count)) in
           let linked : server ≡ unspaced text = ap (λ (s : Session). s .state .last) (m .server) ∙ m .linked there ∙ ap unspaced last in
           let x : exchanged replyRoom (quiet server) (13 ∷ []) list ≡ handing =
           rw linked (heard-again (unspaced text) (unspaced-some pids count) (unspaced-short pids count (ok .few)) (l ∷ ls) (ok .fit) (ok .many)) in
-          let d = replied.again pids count (l ∷ ls) (c .known) in
-          let w = replied.waits (replied.asks pids count (l ∷ ls) (c .known) under.Repeat) store refl refl refl (m .size) in (
+          let d = replied.again pids count (l ∷ ls) c in
+          let w = replied.waits command.Repeat (replied.asks pids count (l ∷ ls) c command.Repeat) store refl refl refl (m .size) in (
             λ h.
-                gives (c .known) under.Repeat store ks server (13 ∷ []) x w d _ h (replied.repeat-complete pids count (l ∷ ls) (c .known) store ks server handing)
+                gives c command.Repeat store ks server (13 ∷ []) x w d _ h (replied.repeat-complete pids count (l ∷ ls) c store ks server handing)
                 (finishes d held _ refl (m .framing) refl (m .agree) size (stands d refl h) last),
-            fails (c .known) under.Repeat store ks server (13 ∷ []) x w,
+            fails c command.Repeat store ks server (13 ∷ []) x w,
           )
 
       asked : Comes (startSays c pids count)
       asked =
-          let s : startSays c pids count ≡ queryStarted 0 c (newQuery pids count (replied.several pids)) = replied.starts c pids count (rw (m .turn)) (ok .some) (ok .few) in
-          by-test (repeats (c .known) text)
+          let q = request pids count (replied.several pids) in
+          let s : startSays c pids count ≡ sendQuery c q = replied.starts c pids count (rw (m .turn)) (ok .some) (ok .few) in
+          by-test (repeats c q)
           (λ e.
-          let last : c .known .last ≡ text = same-true (c .known .last) text (and-right (mayTry (c .known .repeat)) (same (c .known .last) text) e) in
-          subst Comes (sym (s ∙ query-repeated c (newQuery pids count (replied.several pids)) e)) (repeated last))
-          (λ e. subst Comes (sym (s ∙ query-in-full c (newQuery pids count (replied.several pids)) e)) in-full)
+          let last : c .last ≡ text = same-true (c .last) text (and-right (mayTry (c .server .repeat)) (same (c .last) text) e) in
+          subst Comes (sym (s ∙ query-repeated c q e)) (repeated last))
+          (λ e. subst Comes (sym (s ∙ query-in-full c q e)) in-full)
 
 -- ---- a query of a run
 

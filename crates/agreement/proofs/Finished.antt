@@ -7,8 +7,7 @@ use native.Mathlib.Omega.{arith}
 use lib.ListN.{length, take, length-take}
 use borrow.Author.Tests.{le-ltb}
 use Rattle.group.specs.Format.{Each}
-use Rattle.wire.specs.Answer.{result}
-use Rattle.wire.specs.Call.{Said}
+use Rattle.wire.specs.Answer.{result, unless}
 use Rattle.wire.specs.Text.{high}
 use Rattle.wire.proofs.All.{Bytes}
 use Rattle.line_list.specs.Lines.{Line, Fits}
@@ -23,9 +22,10 @@ use Rattle.reply_values.specs.Learn.{lengthsAfter}
 use Rattle.reply_values.specs.Read.{Reading, reading}
 use Rattle.reply_values.proofs.SizeLaws.{reply-size}
 use Rattle.client_session.specs.declared.Under.the-variants as under
-use Rattle.client_session.specs.Session.{Client}
+use Rattle.client_session.specs.Session.{Client, isComplete}
+use Rattle.client_session.specs.Call.{values, ClientSaid, clientSaying}
 use Rattle.client_session.specs.Piece.{replyIn}
-use Rattle.client_session.specs.Finish.{question, isComplete, finished, finishSays}
+use Rattle.client_session.specs.Finish.{question, taught, finishSays}
 use Rattle.client_session.proofs.FinishLaws.{finish-low}
 use Rattle.bench.specs.Run.{valuesRoom}
 use Rattle.line_list.proofs.LineLaws.{AllBytes}
@@ -51,35 +51,40 @@ answer-reordered vs = record { count = refl; size = refl; pids = λ p. refl; fit
 
 -- the lengths that a session knows after its query was answered by lines
 abbrev lengthsThen : Client → List Line → List ℕ
-lengthsThen c ls = lengthsAfter (c .query .several) (c .query .pids) (c .known .lengths) ls
+lengthsThen c ls = lengthsAfter (c .query .several) (c .query .pids) (c .server .«pid_lengths») ls
 
 -- The query of a session c is over, and the next session n keeps what does not depend on the reply.
 pub record Over (c n : Client) : Type 0 where
-  pub under : n .under ≡ under.Nothing
+  pub under : n .under ≡ under.Idle
   pub got : n .got ≡ 0
   pub query : n .query ≡ c .query
-  pub wanted : n .known .wanted ≡ c .known .wanted
-  pub framing : n .known .framing ≡ c .known .framing
-  pub repeat : n .known .repeat ≡ c .known .repeat
-  pub last : n .known .last ≡ c .known .last
+  pub wanted : n .wanted ≡ c .wanted
+  pub framing : n .server .framing ≡ c .server .framing
+  pub repeat : n .server .repeat ≡ c .server .repeat
+  pub last : n .last ≡ c .last
 
-over-with : (c : Client) (r : Reading) → Over c (finished c r .next)
+-- what a finish says of a reply whose values fit
+abbrev withValues : Client → Reading → ClientSaid
+withValues c r = clientSaying (values (length (r .values))) (taught c r) (valuesBytes (r .values))
+
+over-with : (c : Client) (r : Reading) → Over c (taught c r)
 over-with c r = record { under = refl; got = refl; query = refl; wanted = refl; framing = refl; repeat = refl; last = refl }
 
 module _ (c : Client) (store : List ℕ) (turn : isComplete (c .under) ≡ true) (size : 4096 ≤ length store) (low : high (replyIn c store) ≡ false) where
   -- a reply has at most 4,096 bytes below 80 hex, so its values fit
-  pub finish-fits : finishSays valuesRoom c store ≡ finished c (reading (question c) (replyIn c store))
+  pub finish-fits : finishSays valuesRoom c store ≡ withValues c (reading (question c) (replyIn c store))
+  unfolding unless
   finish-fits =
       let reply = replyIn c store in
-      let ls = replyLines (c .known .framing) reply in
+      let ls = replyLines (c .server .framing) reply in
       let short : length reply ≤ 4096 = omega (arith, length-take (c .got) (take 4096 store), length-take 4096 store) in
       let vs = valuesOf (lengthsThen c ls) ls in
-      let fits = reply-size (lengthsThen c ls) (c .known .framing) reply short in
+      let fits = reply-size (lengthsThen c ls) (c .server .framing) reply short in
       finish-low valuesRoom c store turn size low ∙
       rw (le-ltb valuesRoom (length (valuesBytes (answerOrder vs))) (omega (arith, answer-reordered vs .size)))
 
   -- so the finish gets no number
-  pub finish-any : (n : ℕ) × (finishSays valuesRoom c store .answer ≡ result n) × Over c (finishSays valuesRoom c store .next)
+  pub finish-any : (n : ℕ) × (finishSays valuesRoom c store .answer ≡ result (values n)) × Over c (finishSays valuesRoom c store .next)
   finish-any =
       let r = reading (question c) (replyIn c store) in
       rw finish-fits (length (r .values), refl, over-with c r)
@@ -87,11 +92,11 @@ module _ (c : Client) (store : List ℕ) (turn : isComplete (c .under) ≡ true)
 -- ---- the reply to a run's lines
 
 -- A finish f of the query of a session c with the values vs, in a run with the lengths L.
-pub record Gave (L : ℕ → ℕ) (c : Client) (vs : List Value) (f : Said Client ℕ) : Type 0 where
-  pub answer : f .answer ≡ result (length vs)
+pub record Gave (L : ℕ → ℕ) (c : Client) (vs : List Value) (f : ClientSaid) : Type 0 where
+  pub answer : f .answer ≡ result (values (length vs))
   pub text : f .text ≡ valuesBytes (answerOrder vs)
   pub over : Over c (f .next)
-  pub agree : Agree L (f .next .known .lengths)
+  pub agree : Agree L (f .next .server .«pid_lengths»)
 
 known-good : (L : ℕ → ℕ) (ls : List Line) → GoodLines L ls → GoodLines L (map known ls)
 known-good L [] g = g
@@ -108,24 +113,24 @@ after-agree L false [] lengths ls b a g = a
 after-agree L false (p ∷ ps) lengths ls b a g = learn-agree L lengths p ls (b .0) a g
 
 -- the client's values are what the vehicle gave, and its lengths still agree with the run's
-pub finish-given : (L : ℕ → ℕ) (c : Client) (store : List ℕ) (l : Line) (ls : List Line) → isComplete (c .under) ≡ true → 4096 ≤ length store → c .known .framing ≡ true →
-    replyIn c store ≡ replyText false false true (l ∷ ls) → Each Fits (l ∷ ls) → AllBytes (l ∷ ls) → GoodLines L (l ∷ ls) → Bytes (c .query .pids) → Agree L (c .known .lengths) →
+pub finish-given : (L : ℕ → ℕ) (c : Client) (store : List ℕ) (l : Line) (ls : List Line) → isComplete (c .under) ≡ true → 4096 ≤ length store → c .server .framing ≡ true →
+    replyIn c store ≡ replyText false false true (l ∷ ls) → Each Fits (l ∷ ls) → AllBytes (l ∷ ls) → GoodLines L (l ∷ ls) → Bytes (c .query .pids) → Agree L (c .server .«pid_lengths») →
     Gave L c (given (l ∷ ls)) (finishSays valuesRoom c store)
 finish-given L c store l ls turn size framed r fit bytes good pids a =
-    let back : replyLines (c .known .framing) (replyIn c store) ≡ map known (l ∷ ls) = (λ i. replyLines (framed i) (r i)) ∙ reply-back l ls fit bytes in
+    let back : replyLines (c .server .framing) (replyIn c store) ≡ map known (l ∷ ls) = (λ i. replyLines (framed i) (r i)) ∙ reply-back l ls fit bytes in
     let good′ = known-good L (l ∷ ls) good in
     let lengths = lengthsThen c (map known (l ∷ ls)) in
-    let a′ : Agree L lengths = after-agree L (c .query .several) (c .query .pids) (c .known .lengths) (map known (l ∷ ls)) pids a good′ in
+    let a′ : Agree L lengths = after-agree L (c .query .several) (c .query .pids) (c .server .«pid_lengths») (map known (l ∷ ls)) pids a good′ in
     let found : valuesOf lengths (map known (l ∷ ls)) ≡ given (l ∷ ls) =
     values-agree L lengths a′ (map known (l ∷ ls)) good′ (known-bytes (l ∷ ls) bytes) ∙ sym (given-values (l ∷ ls) bytes) in
     let says = finish-fits c store turn size (ap high r ∙ reply-low false false true (l ∷ ls)) in
     let gives = reading (question c) (replyIn c store) in
-    let values : gives .values ≡ answerOrder (given (l ∷ ls)) = ap (λ ls. answerOrder (valuesOf (lengthsThen c ls) ls)) back ∙ ap answerOrder found in
+    let gave : gives .values ≡ answerOrder (given (l ∷ ls)) = ap (λ ls. answerOrder (valuesOf (lengthsThen c ls) ls)) back ∙ ap answerOrder found in
     let same : gives .lengths ≡ lengths = ap (lengthsThen c) back in
     rw says
     (record {
-      answer = ap result (ap length values ∙ answer-reordered (given (l ∷ ls)) .count);
-      text = ap valuesBytes values;
+      answer = ap (λ n. result (values n)) (ap length gave ∙ answer-reordered (given (l ∷ ls)) .count);
+      text = ap valuesBytes gave;
       over = over-with c gives;
       agree = rw same a′;
     })

@@ -11,7 +11,6 @@ use lib.ListN.{length}
 use lib.Seq.{sets, length-sets}
 use borrow.Author.Tests.{ltb-true, ltb-false}
 use Rattle.wire.specs.Answer.{Answer, result, refused}
-use Rattle.wire.specs.Call.{Said}
 use Rattle.wire.specs.Text.{ascii, has, high}
 use Rattle.wire.proofs.All.{Bytes}
 use Rattle.wire.proofs.Cases.{by-test, from-no}
@@ -21,19 +20,22 @@ use Rattle.reply.proofs.ByteLaws.{replyBody, reply-low}
 use Rattle.reply_lines.specs.Lines.{unspaced}
 use Rattle.query.specs.Query.{queryText}
 use Rattle.server_state.specs.declared.FeatureSupport.the-variants as support
-use Rattle.client_session.specs.declared.Under.{Under}
+use Rattle.server_state.specs.State.{withRepeat}
+use Rattle.client_session.specs.declared.Command.{Command}
+use Rattle.client_session.specs.declared.Command.the-variants as command
 use Rattle.client_session.specs.declared.Under.the-variants as under
-use Rattle.client_session.specs.Session.{Known, Client, withRepeat}
-use Rattle.client_session.specs.Start.{repeats, newQuery, queryStarted}
-use Rattle.client_session.specs.Piece.{Progress, complete, replyIn}
+use Rattle.client_session.specs.Session.{Client, withServer}
+use Rattle.client_session.specs.Call.{Progress, complete, ClientSaid}
+use Rattle.client_session.specs.Start.{request, sendQuery}
+use Rattle.client_session.specs.Piece.{replyIn}
 use Rattle.client_session.specs.Finish.{finishSays}
-use Rattle.client_session.proofs.StartLaws.{query-repeated, query-in-full}
+use Rattle.client_session.proofs.StartLaws.{repeats, query-repeated, query-in-full}
 use Rattle.client_session.proofs.PiecesLaws.{Awaiting, prompted}
 use Rattle.script.specs.Script.{Query, script}
 use Rattle.script.proofs.ScriptLaws.{script-numbers}
 use Rattle.bench.specs.Exchange.{Exchanged, exchanged}
 use Rattle.bench.specs.Run as run
-use Rattle.bench.specs.Run.{sendRoom, replyRoom, valuesRoom, Bench, Turn, turn, onward, later, startSays, Part, partOf, finished, part, asked, runSays, runRead, initialised}
+use Rattle.bench.specs.Run.{sendRoom, replyRoom, valuesRoom, Bench, Round, round, onward, later, startSays, Part, partOf, finished, part, asked, runSays, runRead, initialised}
 use Rattle.agreement.specs.Ends as ends
 use Rattle.agreement.specs.Ends.{Ends, too-long, malformed, small-buffer, too-much}
 use Rattle.agreement.proofs.Heard.{quiet, lastCommand, unspaced-short, heard, heard-again, heard-unknown}
@@ -46,7 +48,7 @@ use Rattle.agreement.proofs.Ran.{AllReady, script-ready}
 
 -- The sessions between queries, on any script.
 pub record Quiet (b : Bench) : Type 0 where
-  pub turn : b .client .under ≡ under.Nothing
+  pub turn : b .client .under ≡ under.Idle
   pub size : 4096 ≤ length (b .store)
   pub last : List ℕ
   pub short : length last ≤ 128
@@ -58,8 +60,8 @@ pub data Goes (p : Part) : Type 0 where
   overlong : p .answer ≡ refused 8 → Goes p
 
 -- a complete reply is finished
-abbrev completeTurn : Client → List ℕ → List ℕ → List ℕ → List (List ℕ) → Turn
-completeTurn c store last ks handed = record {
+abbrev completeRound : Client → List ℕ → List ℕ → List ℕ → List (List ℕ) → Round
+completeRound c store last ks handed = record {
   answer = result complete;
   text = [];
   bench = record { client = c; store = store; server = quiet last; lengths = ks };
@@ -67,16 +69,16 @@ completeTurn c store last ks handed = record {
 }
 
 finishes : (c : Client) (store last ks : List ℕ) (handed : List (List ℕ)) → c .under ≡ under.Complete → 4096 ≤ length store → high (replyIn c store) ≡ false → length last ≤ 128 →
-    Goes (finished (completeTurn c store last ks handed))
+    Goes (finished (completeRound c store last ks handed))
 finishes c store last ks handed u size low short =
     let (n, a, o) = finish-any c store (rw u) size low in
     let f = finishSays valuesRoom c store in
-    goes-on _ (ap (partOf f) a) (record { turn = o .under; size = size; last = last; short = short; server = refl })
+    goes-on _ (ap (λ (x : Answer Progress). partOf x (f .text)) a) (record { turn = o .under; size = size; last = last; short = short; server = refl })
 
--- A turn that leaves the client with a complete reply, or with 8.
-data Done (t : Turn) : Type 0 where
+-- A round that leaves the client with a complete reply, or with 8.
+data Done (t : Round) : Type 0 where
   whole : (c : Client) (store last ks : List ℕ) (handed : List (List ℕ)) → c .under ≡ under.Complete → 4096 ≤ length store → high (replyIn c store) ≡ false → length last ≤ 128 →
-      t ≡ completeTurn c store last ks handed → Done t
+      t ≡ completeRound c store last ks handed → Done t
   much : t .answer ≡ refused 8 → Done t
 
 number-goes : (a : Answer Progress) (text : List ℕ) (b : Bench) (h : List (List ℕ)) → a ≡ refused 8 → Goes (finished (record { answer = a; text = text; bench = b; handed = h }))
@@ -89,14 +91,14 @@ number-stops a text b h zero list q = refl
 number-stops (refused m) text b h (suc n) list q = refl
 number-stops (result p) text b h (suc n) list q = from-no cc
 
-done-goes : (t : Turn) (handed : List (List ℕ)) → Done t → Goes (finished (later handed t))
+done-goes : (t : Round) (handed : List (List ℕ)) → Done t → Goes (finished (later handed t))
 done-goes t handed (much e) = number-goes (t .answer) (t .text) (t .bench) (handed ++ t .handed) e
 done-goes t handed (whole c store last ks h u size low short e) =
-    subst (λ (t : Turn). Goes (finished (later handed t))) (sym e) (finishes c store last ks (handed ++ h) u size low short)
+    subst (λ (t : Round). Goes (finished (later handed t))) (sym e) (finishes c store last ks (handed ++ h) u size low short)
 
-done-stays : (t : Turn) (list : List ℕ) → Done t → onward 1 t list ≡ t
+done-stays : (t : Round) (list : List ℕ) → Done t → onward 1 t list ≡ t
 done-stays t list (much e) = number-stops (t .answer) (t .text) (t .bench) (t .handed) 1 list e
-done-stays t list (whole c store last ks h u size low short e) = subst (λ (t : Turn). onward 1 t list ≡ t) (sym e) refl
+done-stays t list (whole c store last ks h u size low short e) = subst (λ (t : Round). onward 1 t list ≡ t) (sym e) refl
 
 module _ (pids : List ℕ) (count : ℕ) (ls : List Line) (ok : Ready (record { pids = pids; count = count; lines = ls })) where
   abbrev text : List ℕ
@@ -112,81 +114,81 @@ module _ (pids : List ℕ) (count : ℕ) (ls : List Line) (ok : Ready (record { 
   list = linesBytes ls
 
   -- a command that the server replies to with the lines
-  module _ (k : Known) (u : Under) (store ks server command next : List ℕ) (handed : List (List ℕ)) (size : 4096 ≤ length store) (short : length next ≤ 128) where
+  module _ (c : Client) (k : Command) (store ks server command next : List ℕ) (handed : List (List ℕ)) (size : 4096 ≤ length store) (short : length next ≤ 128) where
     abbrev sent : Bench
-    sent = replied.bench pids count ls k u store ks server command
+    sent = replied.bench pids count ls c k store ks server command
 
     abbrev handing : Exchanged
     handing = record { next = quiet next; text = reply; handed = handed }
 
-    module _ (e : exchanged replyRoom (quiet server) command list ≡ handing) (w : Awaiting sendRoom (replied.asks pids count ls k u) store []) where
-      done : (c : Client) (ks′ : List ℕ) → c .under ≡ under.Complete → c .got ≡ length (prompted body) →
-          settled sent command list handing body ≡ completeTurn c (sets store 0 (prompted body)) next ks′ handed → Done (turn sent command list)
-      done c ks′ u′ counted q =
+    module _ (e : exchanged replyRoom (quiet server) command list ≡ handing) (w : Awaiting sendRoom k (replied.asks pids count ls c k) store []) where
+      done : (d : Client) (ks′ : List ℕ) → d .under ≡ under.Complete → d .got ≡ length (prompted body) →
+          settled k sent command list handing body ≡ completeRound d (sets store 0 (prompted body)) next ks′ handed → Done (round sent command list)
+      done d ks′ u′ counted q =
           by-test (ltb 4096 (length reply))
-          (λ t. much (replied.reply-fails pids count ls k u store ks server command handing e refl w (ltb-true 4096 (length reply) t)))
+          (λ t. much (replied.reply-fails pids count ls c k store ks server command handing e refl w (ltb-true 4096 (length reply) t)))
           (λ t.
           let h = ltb-false 4096 (length reply) t in
-          let low : high (replyIn c (sets store 0 (prompted body))) ≡ false = ap high (replied.stands pids count ls store size c counted h) ∙ reply-low false false true ls in
-          whole c (sets store 0 (prompted body)) next ks′ handed u′ (replied.still-size pids count ls store size) low short
-          (replied.reply-comes pids count ls k u store ks server command handing e refl w h ∙ q))
+          let low : high (replyIn d (sets store 0 (prompted body))) ≡ false = ap high (replied.stands pids count ls store size d counted h) ∙ reply-low false false true ls in
+          whole d (sets store 0 (prompted body)) next ks′ handed u′ (replied.still-size pids count ls store size) low short
+          (replied.reply-comes pids count ls c k store ks server command handing e refl w h ∙ q))
 
-  module _ (k : Known) (store ks server : List ℕ) (size : 4096 ≤ length store) (short : length server ≤ 128) where
+  module _ (c : Client) (store ks server : List ℕ) (size : 4096 ≤ length store) (short : length server ≤ 128) where
     -- a query in full
     last-short : (ls : List Line) → length (lastCommand ls server (unspaced text)) ≤ 128
     last-short [] = short
     last-short (l ∷ ls) = unspaced-short pids count (ok .few)
 
-    in-full : Done (turn (replied.bench pids count ls k under.Query store ks server (text ++ (13 ∷ []))) (text ++ (13 ∷ [])) list)
+    in-full : Done (round (replied.bench pids count ls c command.Query store ks server (text ++ (13 ∷ []))) (text ++ (13 ∷ [])) list)
     in-full =
-        done k under.Query store ks server (text ++ (13 ∷ [])) (lastCommand ls server (unspaced text)) (unspaced text ∷ []) size (last-short ls)
+        done c command.Query store ks server (text ++ (13 ∷ [])) (lastCommand ls server (unspaced text)) (unspaced text ∷ []) size (last-short ls)
         (heard pids count (ok .few) (ok .counted) server ls (ok .fit) (ok .many))
-        (replied.waits (replied.asks pids count ls k under.Query) store refl refl refl size)
-        (replied.fully pids count ls k) _ refl refl refl
+        (replied.waits command.Query (replied.asks pids count ls c command.Query) store refl refl refl size)
+        (replied.fully pids count ls c) _ refl refl refl
 
     -- a repeat of the server's last command
-    again : 0 < length server → Done (turn (replied.bench pids count ls k under.Repeat store ks server (13 ∷ [])) (13 ∷ []) list)
+    again : 0 < length server → Done (round (replied.bench pids count ls c command.Repeat store ks server (13 ∷ [])) (13 ∷ []) list)
     again some =
-        done k under.Repeat store ks server (13 ∷ []) server (server ∷ []) size short (heard-again server some short ls (ok .fit) (ok .many))
-        (replied.waits (replied.asks pids count ls k under.Repeat) store refl refl refl size)
-        (replied.again pids count ls k) _ refl refl (replied.repeat-complete pids count ls k store ks server (record { next = quiet server; text = reply; handed = server ∷ [] }))
+        done c command.Repeat store ks server (13 ∷ []) server (server ∷ []) size short (heard-again server some short ls (ok .fit) (ok .many))
+        (replied.waits command.Repeat (replied.asks pids count ls c command.Repeat) store refl refl refl size)
+        (replied.again pids count ls c) _ refl refl (replied.repeat-complete pids count ls c store ks server (record { next = quiet server; text = reply; handed = server ∷ [] }))
 
-  module _ (k : Known) (store ks : List ℕ) (size : 4096 ≤ length store) where
+  module _ (c : Client) (store ks : List ℕ) (size : 4096 ≤ length store) where
     abbrev asking : Bench
-    asking = replied.bench pids count ls k under.Repeat store ks [] (13 ∷ [])
+    asking = replied.bench pids count ls c command.Repeat store ks [] (13 ∷ [])
 
     -- a repeat where the server has none: it answers `?`, and the query follows in full
-    unknown : Goes (finished (onward 1 (turn asking (13 ∷ []) list) list))
+    unknown : Goes (finished (onward 1 (round asking (13 ∷ []) list) list))
     unfolding has
     unknown =
         let x : Exchanged = record { next = quiet []; text = prompted (ascii "?\r\r"); handed = [] } in
-        let w = replied.waits (replied.asks pids count ls k under.Repeat) store refl refl refl size in
+        let w = replied.waits command.Repeat (replied.asks pids count ls c command.Repeat) store refl refl refl size in
         let still : 4096 ≤ length (sets store 0 (prompted (ascii "?\r\r"))) = omega (arith, length-sets store 0 (prompted (ascii "?\r\r"))) in
-        subst (λ (t : Turn). Goes (finished (onward 1 t list))) (sym (settles asking (13 ∷ []) list x (ascii "?\r\r") (heard-unknown list) refl w question-plainly))
-        (done-goes _ [] (in-full (withRepeat k support.No) (sets store 0 (prompted (ascii "?\r\r"))) _ [] still (omega arith)))
+        subst (λ (t : Round). Goes (finished (onward 1 t list))) (sym (settles command.Repeat asking (13 ∷ []) list x (ascii "?\r\r") (heard-unknown list) refl w question-plainly))
+        (done-goes _ [] (in-full (withServer c (withRepeat (c .server) support.No)) (sets store 0 (prompted (ascii "?\r\r"))) _ [] still (omega arith)))
 
-    repeated : (server : List ℕ) → length server ≤ 128 → Goes (finished (onward 1 (turn (replied.bench pids count ls k under.Repeat store ks server (13 ∷ [])) (13 ∷ []) list) list))
+    repeated : (server : List ℕ) → length server ≤ 128 → Goes (finished (onward 1 (round (replied.bench pids count ls c command.Repeat store ks server (13 ∷ [])) (13 ∷ []) list) list))
     repeated [] short = unknown
     repeated (b ∷ server) short =
-        let d = again k store ks (b ∷ server) size short (omega arith) in
-        subst (λ (t : Turn). Goes (finished t)) (sym (done-stays _ list d)) (done-goes _ [] d)
+        let d = again c store ks (b ∷ server) size short (omega arith) in
+        subst (λ (t : Round). Goes (finished t)) (sym (done-stays _ list d)) (done-goes _ [] d)
 
     fully : (server : List ℕ) → length server ≤ 128 →
-        Goes (finished (onward 1 (turn (replied.bench pids count ls k under.Query store ks server (text ++ (13 ∷ []))) (text ++ (13 ∷ [])) list) list))
+        Goes (finished (onward 1 (round (replied.bench pids count ls c command.Query store ks server (text ++ (13 ∷ []))) (text ++ (13 ∷ [])) list) list))
     fully server short =
-        let d = in-full k store ks server size short in
-        subst (λ (t : Turn). Goes (finished t)) (sym (done-stays _ list d)) (done-goes _ [] d)
+        let d = in-full c store ks server size short in
+        subst (λ (t : Round). Goes (finished t)) (sym (done-stays _ list d)) (done-goes _ [] d)
 
   -- what comes of a start
-  goes : (c : Client) (store ks server : List ℕ) → c .under ≡ under.Nothing → 4096 ≤ length store → length server ≤ 128 →
+  goes : (c : Client) (store ks server : List ℕ) → c .under ≡ under.Idle → 4096 ≤ length store → length server ≤ 128 →
       Goes (finished (run.asking (record { client = c; store = store; server = quiet server; lengths = ks }) (startSays c pids count) list))
   goes c store ks server free size short =
-      let q = newQuery pids count (replied.several pids) in
-      let s : startSays c pids count ≡ queryStarted 0 c q = replied.starts c pids count (rw free) (ok .some) (ok .few) in
+      let q = request pids count (replied.several pids) in
+      let s : startSays c pids count ≡ sendQuery c q = replied.starts c pids count (rw free) (ok .some) (ok .few) in
       let b : Bench = record { client = c; store = store; server = quiet server; lengths = ks } in
-      by-test (repeats (c .known) text)
-      (λ e. subst (λ (s : Said Client (Unit {0})). Goes (finished (run.asking b s list))) (sym (s ∙ query-repeated c q e)) (repeated (c .known) store ks size server short))
-      (λ e. subst (λ (s : Said Client (Unit {0})). Goes (finished (run.asking b s list))) (sym (s ∙ query-in-full c q e)) (fully (c .known) store ks size server short))
+      by-test (repeats c q)
+      (λ e. subst (λ (s : ClientSaid). Goes (finished (run.asking b s list))) (sym (s ∙ query-repeated c q e)) (repeated c store ks size server short))
+      (λ e. subst (λ (s : ClientSaid). Goes (finished (run.asking b s list))) (sym (s ∙ query-in-full c q e)) (fully c store ks size server short))
 
 pub part-goes : (b : Bench) (q : Query) → Quiet b → Ready q → Goes (part b q)
 unfolding part

@@ -4,34 +4,35 @@ use mathlib.Core.Bool.{Bool, true, false}
 use mathlib.Core.List.{List, []}
 use Prim.Native.Nat.{ℕ, suc, _≤_, _<_}
 use native.Mathlib.Omega.{arith}
-use lib.ListN.{length, replicate, length-replicate}
+use lib.ListN.{length, length-replicate}
 use lib.Seq.{sets, length-sets}
-use Rattle.wire.specs.Answer.{result}
-use Rattle.wire.specs.Call.{Said}
+use Rattle.wire.specs.Answer.{result, unless}
 use Rattle.wire.specs.Text.{ascii, has, high}
-use Rattle.pid.specs.Lengths.{mode01Lengths}
-use Rattle.server_state.specs.declared.FeatureSupport.the-variants as support
-use Rattle.server_state.specs.State.{supportAtFirst}
+use Rattle.server_state.specs.State.{withFraming}
 use Rattle.reply_lines.specs.Lines.{unspaced}
 use Rattle.server_session.specs.Session.{Session}
-use Rattle.client_session.specs.declared.Under.the-variants as under
-use Rattle.client_session.specs.Session.{Client, Known, freshClient, withFraming}
+use Rattle.client_session.specs.declared.Command.{Command}
+use Rattle.client_session.specs.declared.Command.the-variants.{Setup}
+use Rattle.client_session.specs.declared.Under.the-variants.{Idle, Awaiting}
+use Rattle.client_session.specs.Session.{freshClient, withUnder, withServer}
+use Rattle.client_session.specs.Call.{sent, over, ClientSaid}
 use Rattle.client_session.specs.Start.{initSays}
-use Rattle.client_session.specs.Piece.{Progress, sent, over, completed, pieceSays}
-use Rattle.client_session.proofs.PiecesLaws.{Awaiting, Plainly, prompted}
+use Rattle.client_session.specs.Piece.{completed, pieceSays}
+use Rattle.client_session.proofs.PiecesLaws as pieces
+use Rattle.client_session.proofs.PiecesLaws.{Plainly, prompted}
 use Rattle.bench.specs.Exchange.{Exchanged, exchanged}
-use Rattle.bench.specs.Deliver.{delivered}
-use Rattle.bench.specs.Run.{sendRoom, replyRoom, freshStore, Bench, Turn, turned, turn, onward, reset, initialised}
+use Rattle.bench.specs.Deliver.{Delivered, delivered}
+use Rattle.bench.specs.Run.{sendRoom, replyRoom, freshStore, Bench, Round, round, onward, reset, initialised}
 use Rattle.agreement.proofs.Agree.{Agree, agree-fresh}
 use Rattle.agreement.proofs.Heard.{quiet, during, reset-heard, echo-off-heard, linefeeds-off-heard, spaces-off-heard, protocol-heard, headers-on-heard}
 use Rattle.agreement.proofs.Arrive.{arrives}
 
 -- a command whose reply is plain, and ends with its prompt: the client comes out as it completes the whole reply
-module _ (b : Bench) (command list : List ℕ) (x : Exchanged) (body : List ℕ) where
-  abbrev pub settledReply : Said Client Progress
-  settledReply = completed (b .client .under) (b .client) (prompted body)
+module _ (k : Command) (b : Bench) (command list : List ℕ) (x : Exchanged) (body : List ℕ) where
+  abbrev pub settledReply : ClientSaid
+  settledReply = completed k (b .client) (prompted body)
 
-  abbrev pub settled : Turn
+  abbrev pub settled : Round
   settled = record {
     answer = settledReply .answer;
     text = settledReply .text;
@@ -44,10 +45,19 @@ module _ (b : Bench) (command list : List ℕ) (x : Exchanged) (body : List ℕ)
     handed = x .handed;
   }
 
-  pub settles : exchanged replyRoom (b .server) command list ≡ x → x .text ≡ prompted body → Awaiting sendRoom (b .client) (b .store) [] → Plainly body →
-      turn b command list ≡ settled
+  -- what an exchange and a delivery come to
+  abbrev turned : Exchanged → Delivered → Round
+  turned x d = record {
+    answer = d .said .answer;
+    text = d .said .text;
+    bench = record { client = d .said .next; store = d .store; server = x .next; lengths = d .lengths };
+    handed = x .handed;
+  }
+
+  pub settles : exchanged replyRoom (b .server) command list ≡ x → x .text ≡ prompted body → pieces.Awaiting sendRoom k (b .client) (b .store) [] → Plainly body →
+      round b command list ≡ settled
   settles e q w ok =
-      let a = arrives (b .client) (b .store) (b .lengths) body w ok in
+      let a = arrives k (b .client) (b .store) (b .lengths) body w ok in
       (λ i. turned (e i) (delivered sendRoom (b .client) (b .store) (b .lengths) (e i .text))) ∙
       ap (λ r. turned x (delivered sendRoom (b .client) (b .store) (b .lengths) r)) q ∙
       (λ i. record {
@@ -64,45 +74,33 @@ module _ (b : Bench) (command list : List ℕ) (x : Exchanged) (body : List ℕ)
 
 -- The sessions between queries, in a run in which a PID p outside the table has the length L p.
 pub record Between (L : ℕ → ℕ) (b : Bench) : Type 0 where
-  pub turn : b .client .under ≡ under.Nothing
-  pub framing : b .client .known .framing ≡ true
-  pub agree : Agree L (b .client .known .lengths)
+  pub turn : b .client .under ≡ Idle
+  pub framing : b .client .server .framing ≡ true
+  pub agree : Agree L (b .client .server .«pid_lengths»)
   pub size : 4096 ≤ length (b .store)
   -- the server's last command is the client's last query less spaces
   pub last : List ℕ
   pub server : b .server ≡ quiet last
-  pub linked : 0 < length (b .client .known .last) → last ≡ unspaced (b .client .known .last)
+  pub linked : 0 < length (b .client .last) → last ≡ unspaced (b .client .last)
 
 -- ---- the initialisation
 
--- what a fresh client knows
-abbrev fresh : Bool → Known
-fresh repeat = record {
-  wanted = true;
-  framing = false;
-  repeat = supportAtFirst repeat;
-  multi = support.Unknown;
-  lengths = mode01Lengths;
-  counts = replicate 256 0;
-  last = [];
-}
-
 -- the k-th command of the initialisation after ATZ is to be sent
-abbrev sends : Bool → ℕ → List ℕ → List ℕ → Session → List ℕ → Turn
+abbrev sends : Bool → ℕ → List ℕ → List ℕ → Session → List ℕ → Round
 sends repeat k command store s ks = record {
   answer = result sent;
   text = command;
-  bench = record { client = record { known = fresh repeat; query = record { text = []; pids = []; several = false }; under = under.Setup k; got = 0 }; store = store; server = s; lengths = ks };
+  bench = record { client = withUnder (freshClient true repeat) (Awaiting (Setup k)) 0; store = store; server = s; lengths = ks };
   handed = [];
 }
 
 module _ (n : ℕ) (repeat : Bool) (k : ℕ) (command store : List ℕ) (s : Session) (ks : List ℕ) (next : Session) (body : List ℕ) where
   answers : exchanged replyRoom s command [] ≡ record { next = next; text = prompted body; handed = [] } → Plainly body → 4096 ≤ length store →
       onward (suc n) (sends repeat k command store s ks) [] ≡
-      onward n (settled (sends repeat k command store s ks .bench) command [] (record { next = next; text = prompted body; handed = [] }) body) []
+      onward n (settled (Setup k) (sends repeat k command store s ks .bench) command [] (record { next = next; text = prompted body; handed = [] }) body) []
   answers e ok size =
-      ap (λ (t : Turn). onward n t [])
-      (settles (sends repeat k command store s ks .bench) command [] _ body e refl
+      ap (λ (t : Round). onward n t [])
+      (settles (Setup k) (sends repeat k command store s ks .bench) command [] _ body e refl
       (record { turn = refl; reply = refl; out = omega arith; size = size; got = refl; front = refl }) ok)
 
 ok-plainly : Plainly (ascii "OK\r\r")
@@ -121,12 +119,12 @@ fresh-size = omega (arith, length-replicate {A = ℕ} 4096 0)
 
 -- ATZ's echo and answer are one piece, which is dropped
 begins : (repeat : Bool) (ks : List ℕ) → initialised repeat ks ≡ onward 5 (sends repeat 0 (ascii "ATE0\r") freshStore (during true true true false) ks) []
-unfolding initialised initSays pieceSays
+unfolding initialised initSays pieceSays unless
 begins repeat ks =
     let i = initSays sendRoom (freshClient true repeat) in
     ap (λ (x : Exchanged). onward 5 (reset i x ks) []) reset-heard
 
-pub record Started (L : ℕ → ℕ) (t : Turn) : Type 0 where
+pub record Started (L : ℕ → ℕ) (t : Round) : Type 0 where
   pub answer : t .answer ≡ result over
   pub handed : t .handed ≡ []
   pub between : Between L (t .bench)
@@ -139,7 +137,7 @@ module _ (L : ℕ → ℕ) (repeat : Bool) (ks : List ℕ) where
         answer = result over;
         text = [];
         bench = record {
-          client = record { known = withFraming (fresh repeat) true; query = record { text = []; pids = []; several = false }; under = under.Nothing; got = n };
+          client = let c = freshClient true repeat in withUnder (withServer c (withFraming (c .server) true)) Idle n;
           store = store;
           server = quiet [];
           lengths = ks;

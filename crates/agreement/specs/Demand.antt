@@ -17,7 +17,7 @@ use Rattle.reply_lines.specs.Lines.{unspaced}
 use Rattle.query.specs.Query.{queryText}
 use Rattle.script.specs.Script.{Query, script}
 use Rattle.bench.specs.declared.BenchRun.{BenchRun}
-use Rattle.bench.specs.Run.{Run, runSays, runAnswer, recorded, lent}
+use Rattle.bench.specs.Run.{Run, runSays, runAnswer, recorded, runLent}
 use Rattle.agreement.specs.Lines.{GoodLines}
 use Rattle.agreement.specs.Vehicle.{given}
 
@@ -75,7 +75,7 @@ pub record Drive : Type 0 where
   pub lentBuffer : List ℕ
   pub buffer : List ℕ
   pub run : BenchRun
-  pub ran : recorded run buffer ≡ lent (runSays repeat pieces (length lentBuffer) scriptBytes) lentBuffer
+  pub ran : recorded run buffer ≡ runLent (runSays repeat pieces (length lentBuffer) scriptBytes) lentBuffer
 
 -- the hire record of a run: the bytes that stand in the buffer
 abbrev pub hireRecord : Drive → List ℕ

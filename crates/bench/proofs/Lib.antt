@@ -2,7 +2,7 @@ pub mod Worked
 pub mod PiecesLaws
 pub mod ExchangeLaws
 pub mod DeliverLaws
-mod TurnLaws
+mod RoundLaws
 mod OnwardLaws
 mod AskLaws
 mod LoopLaws

@@ -1,7 +1,7 @@
 -- Laws of the run over the queries of a script: a part in the record, and what is left of the run at a position of the script and of the record.
 use mathlib.Core.Path.{_≡_, refl, sym, ap, subst, _∙_}
 use mathlib.Core.List.{List, [], _∷_, _++_, append-nil}
-use Prim.Native.Nat.{ℕ, zero, suc, _+_, _-_, _≤_, _<_}
+use Prim.Native.Nat.{ℕ, _+_, _-_, _≤_, _<_}
 use native.Mathlib.Omega.{arith}
 use denote.Enum.Declared.{tagOf}
 use types.Run.{OneOf, miss}
@@ -9,7 +9,9 @@ use lib.Dec.{ltb}
 use lib.ListN.{length, take, drop, length-append}
 use lib.Seq.{sets, length-sets}
 use borrow.Author.Tests.{ltb-false, lt-ltb, le-ltb}
-use Rattle.wire.specs.Answer.{Answer, result, refused}
+use Rattle.wire.specs.declared.Refusal.{Refusal}
+use Rattle.wire.specs.declared.Refusal.the-variants.{SmallBuffer}
+use Rattle.wire.specs.Answer.{Answer, result, refused, number}
 use Rattle.wire.specs.Put.{Put}
 use Rattle.wire.specs.Text.{joined}
 use Rattle.wire.proofs.Cases.{by-test, from-no}
@@ -28,9 +30,10 @@ use Rattle.group.proofs.WalkLaws.{Ahead, ahead-end, ahead-none, ahead-thing}
 use Rattle.bench.specs.declared.Bench as code
 use Rattle.bench.specs.declared.BenchRun.{BenchRun}
 use Rattle.bench.specs.declared.RunAnswer.the-variants.{Complete, Refused}
+use Rattle.bench.specs.declared.PartAnswer.the-variants as part-answer
 use Rattle.bench.specs.declared.PartStep.{PartStep}
-use Rattle.bench.specs.Run.{Part, startSays, asking, finished, part, Run, after, sizeOf, standing, asked, runAnswer, Recorded, recorded, lent}
-use Rattle.bench.specs.Steps.{benchOf, partAnswer, PartDoes, IsScript, orNone, queriesOf, added, lentFrom}
+use Rattle.bench.specs.Run.{Part, startSays, asking, finished, part, Run, after, sizeOf, standing, asked, runAnswer, Recorded, recorded, runLent}
+use Rattle.bench.specs.Steps.{benchOf, partText, PartDoes, IsScript, orNone, queriesOf, added, lentFrom}
 
 -- what the host sees is its answer, its length and the buffer
 recorded-same : {x y : Recorded} → x .answer ≡ y .answer → x .written ≡ y .written → x .out ≡ y .out → x ≡ y
@@ -40,29 +43,26 @@ recorded-same a w o = λ i. record { answer = a i; written = w i; out = o i }
 
 module _ (at : ℕ) (buffer : List ℕ) (r : BenchRun) where
   -- a number ends the run
-  pub number-ends : (room n count : ℕ) (text : List ℕ) → (n ≡ 0 → ⊥) → r ≡ record { answer = Refused n; written = at } →
-      recorded r buffer ≡ lentFrom at (added room (partAnswer n count text)) buffer
-  number-ends room zero count text some e = absurd (some refl)
-  number-ends room (suc n) count text some e = ap (λ (x : BenchRun). recorded x buffer) e ∙ recorded-same refl (omega arith) refl
+  pub number-ends : (room : ℕ) (q : Refusal) (text : List ℕ) → r ≡ record { answer = Refused q; written = at } →
+      recorded r buffer ≡ lentFrom at (added room (partText (part-answer.Refused q) text)) buffer
+  number-ends room q text e = ap (λ (x : BenchRun). recorded x buffer) e ∙ recorded-same refl (omega arith) refl
 
   -- 6: there is no room for the part
-  pub no-room : (room n count : ℕ) (text : List ℕ) → n ≡ 0 → room < length (groupBytes count) + length text → r ≡ record { answer = Refused 6; written = at } →
-      recorded r buffer ≡ lentFrom at (added room (partAnswer n count text)) buffer
-  no-room room zero count text z h e =
+  pub no-room : (room count : ℕ) (text : List ℕ) → room < length (groupBytes count) + length text → r ≡ record { answer = Refused SmallBuffer; written = at } →
+      recorded r buffer ≡ lentFrom at (added room (partText (part-answer.Values count) text)) buffer
+  no-room room count text h e =
       let long = lt-ltb room (length (groupBytes count ++ text)) (omega (arith, length-append (groupBytes count) text)) in
       ap (λ (x : BenchRun). recorded x buffer) e ∙ rw long (recorded-same refl (omega arith) refl)
-  no-room room (suc n) count text z h e = absurd (omega arith)
 
 -- the part is written
-pub part-fits : (at : ℕ) (buffer left : List ℕ) (end n count : ℕ) (text : List ℕ) → n ≡ 0 → at ≤ length buffer →
+pub part-fits : (at : ℕ) (buffer left : List ℕ) (end count : ℕ) (text : List ℕ) → at ≤ length buffer →
     length (groupBytes count) + length text ≤ length buffer - at → Put buffer at (groupBytes count ++ text) end left →
-    recorded (record { answer = Complete; written = end }) left ≡ lentFrom at (added (length buffer - at) (partAnswer n count text)) buffer
-part-fits at buffer left end zero count text z inside h p =
+    recorded (record { answer = Complete; written = end }) left ≡ lentFrom at (added (length buffer - at) (partText (part-answer.Values count) text)) buffer
+part-fits at buffer left end count text inside h p =
     let bytes = groupBytes count ++ text in
     let size = length-append (groupBytes count) text in
     rw (le-ltb (length buffer - at) (length bytes) (omega (arith, size)), append-nil bytes)
     (recorded-same refl (put-whole p (omega (arith, size))) (p .bytes))
-part-fits at buffer left end (suc n) count text z inside h p = absurd (omega arith)
 
 -- ---- the others after a part
 
@@ -117,7 +117,7 @@ pub record Left (whole : Recorded) (s lengths : List ℕ) (b : code.Bench) (plac
 
 -- at the start all of it is left
 pub left-start : (s lengths : List ℕ) (b : code.Bench) (place at : ℕ) (buffer store : List ℕ) → IsScript s → place ≡ 0 → at ≡ 0 →
-    Left (lent (asked (length buffer) (benchOf b store lengths) (queriesOf s)) buffer) s lengths b place at buffer store
+    Left (runLent (asked (length buffer) (benchOf b store lengths) (queriesOf s)) buffer) s lengths b place at buffer store
 left-start s lengths b place at buffer store (qs, h) p z =
     let room : length buffer ≡ length buffer - at = omega arith in
     record {
@@ -125,8 +125,8 @@ left-start s lengths b place at buffer store (qs, h) p z =
       ahead = ahead-start s place qs h p;
       inside = omega arith;
       rest =
-          ap (λ n. lent (asked n (benchOf b store lengths) (queriesOf s)) buffer) room ∙
-          ap (λ a. lent (asked (length buffer - at) (benchOf b store lengths) (orNone a)) buffer) h ∙
+          ap (λ n. runLent (asked n (benchOf b store lengths) (queriesOf s)) buffer) room ∙
+          ap (λ a. runLent (asked (length buffer - at) (benchOf b store lengths) (orNone a)) buffer) h ∙
           recorded-same refl (omega arith) (ap (λ n. sets buffer n (joined (asked (length buffer - at) (benchOf b store lengths) qs .parts))) (sym z));
     }
 
@@ -152,12 +152,12 @@ module _ {whole : Recorded} {s lengths : List ℕ} {b : code.Bench} {place at : 
       (asking (benchOf b store lengths) (startSays (client (b .client)) (take (pids + few - pids) (drop pids s)) count) (take (next - list) (drop list s))))
       p values store₁ lengths)
       (r : BenchRun) (buffer₁ : List ℕ)
-      (e : recorded r buffer₁ ≡ lentFrom at (added (length buffer - at) (partAnswer (p .number) (p .count) (take (p .written) values))) buffer) where
+      (e : recorded r buffer₁ ≡ lentFrom at (added (length buffer - at) (partText (p .answer) (take (p .written) values))) buffer) where
     abbrev room : ℕ
     room = length buffer - at
 
     abbrev answer : Answer (List ℕ)
-    answer = partAnswer (p .number) (p .count) (take (p .written) values)
+    answer = partText (p .answer) (take (p .written) values)
 
     abbrev says : Part
     says = part (benchOf b store lengths) q
@@ -184,10 +184,10 @@ module _ {whole : Recorded} {s lengths : List ℕ} {b : code.Bench} {place at : 
         (λ i. lentFrom at (standing room (a i) (says .handed) (asked (room - sizeOf (a i)) (c i) qs)) buffer)
 
     -- a number ends the run
-    pub left-refused : (n : ℕ) → r .answer ≡ Refused n → recorded r buffer₁ ≡ whole
-    left-refused n k =
+    pub left-refused : (refusal : Refusal) → r .answer ≡ Refused refusal → recorded r buffer₁ ≡ whole
+    left-refused refusal k =
         let (qs, f, _) = ahead-thing queryFormat s place (l .queries) (l .ahead) query-lawful query-some (w .here) in
-        e ∙ sym (one-more qs f ∙ number-last room at buffer answer (says .handed) (others qs) n (sym (ap (λ (x : Recorded). x .answer) e) ∙ ap runAnswer k))
+        e ∙ sym (one-more qs f ∙ number-last room at buffer answer (says .handed) (others qs) (number refusal) (sym (ap (λ (x : Recorded). x .answer) e) ∙ ap runAnswer k))
 
     -- the part stands
     pub left-next : r .answer ≡ Complete → Left whole s lengths (p .bench) next (r .written) buffer₁ store₁

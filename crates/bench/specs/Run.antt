@@ -3,21 +3,21 @@
 -- lines of the query under way." "The hire record has, per query, the number of values as a group number and the values. 3 and 5 come before anything runs; 8, or 6
 -- when a query's part overruns the record buffer, ends the run there, and the answer holds the number and the length of the earlier parts, which stand written."
 -- (Hire record is document 01's term.)
-use mathlib.Core.Bool.{Bool, true, cond}
+use mathlib.Core.Bool.{Bool, true, false, not, cond}
 use mathlib.Core.List.{List, [], _∷_, _++_}
 use Prim.Native.Nat.{ℕ, zero, suc, _-_}
-use lib.Dec.{ltb}
+use lib.Dec.{eqb, ltb}
 use lib.ListN.{length, replicate}
 use lib.Seq.{sets}
-use Rattle.wire.specs.Answer.{Answer, result, refused}
-use Rattle.wire.specs.Call.{Said}
+use Rattle.wire.specs.Answer.{Answer, result, refused, number}
 use Rattle.wire.specs.Text.{joined}
 use Rattle.group.specs.Group.{groupBytes}
 use Rattle.line_list.specs.Lines.{linesBytes}
 use Rattle.server_session.specs.Session.{Session, freshSession}
 use Rattle.client_session.specs.Session.{Client, freshClient}
-use Rattle.client_session.specs.Start.{initSays, queryPidSays, queryPidsSays}
-use Rattle.client_session.specs.Piece.{Progress, awaited, sent, over, complete, pieceSays, stored}
+use Rattle.client_session.specs.Call.{Progress, sent, awaited, over, complete, values, valueCount, ClientSaid}
+use Rattle.client_session.specs.Start.{initSays, querySays}
+use Rattle.client_session.specs.Piece.{pieceSays, storeAfter}
 use Rattle.client_session.specs.Finish.{finishSays}
 use Rattle.script.specs.Script.{Query, script}
 use Rattle.bench.specs.Exchange.{Exchanged, exchanged}
@@ -55,59 +55,57 @@ pub record Bench : Type 0 where
   pub lengths : List ℕ
 
 -- Where the run stands after a command: what its reply said to the client, the bytes that the client sends next, and the OBD commands handed out.
-pub record Turn : Type 0 where
+pub record Round : Type 0 where
   pub answer : Answer Progress
   pub text : List ℕ
   pub bench : Bench
   pub handed : List (List ℕ)
 
--- the reply that an exchange brought has been delivered
-abbrev pub turned : Exchanged → Delivered → Turn
-turned x d = record {
-  answer = d .said .answer;
-  text = d .said .text;
-  bench = record { client = d .said .next; store = d .store; server = x .next; lengths = d .lengths };
-  handed = x .handed;
-}
-
 -- the client's bytes go to the server, and all that it sends for them comes back in pieces; list is the line list of the query under way
-abbrev pub turn : Bench → List ℕ → List ℕ → Turn
-turn b command list =
+abbrev pub round : Bench → List ℕ → List ℕ → Round
+round b command list =
     let x = exchanged replyRoom (b .server) command list in
-    turned x (delivered sendRoom (b .client) (b .store) (b .lengths) (x .text))
+    let d = delivered sendRoom (b .client) (b .store) (b .lengths) (x .text) in
+    record {
+      answer = d .said .answer;
+      text = d .said .text;
+      bench = record { client = d .said .next; store = d .store; server = x .next; lengths = d .lengths };
+      handed = x .handed;
+    }
 
 -- the same with some commands handed out before
-abbrev pub later : List (List ℕ) → Turn → Turn
+abbrev pub later : List (List ℕ) → Round → Round
 later handed t = record { answer = t .answer; text = t .text; bench = t .bench; handed = handed ++ t .handed }
 
--- by what a reply said: a further command of the client is taken to the server
-abbrev pub sending : Answer Progress → Turn → Turn → Turn
-sending (refused n) t next = t
-sending (result awaited) t next = t
-sending (result sent) t next = next
-sending (result over) t next = t
-sending (result complete) t next = t
+-- the client has a further command to send
+abbrev pub isSent : Answer Progress → Bool
+isSent (result sent) = true
+isSent (result awaited) = false
+isSent (result over) = false
+isSent (result complete) = false
+isSent (result (values n)) = false
+isSent (refused n) = false
 
--- at most n further commands
-abbrev pub onward : ℕ → Turn → List ℕ → Turn
+-- at most n further commands of the client are taken to the server
+abbrev pub onward : ℕ → Round → List ℕ → Round
 onward zero t list = t
-onward (suc n) t list = sending (t .answer) t (later (t .handed) (onward n (turn (t .bench) (t .text) list) list))
+onward (suc n) t list = cond (isSent (t .answer)) (later (t .handed) (onward n (round (t .bench) (t .text) list) list)) t
 
 -- ---- the initialisation
 
 -- "the ATZ echo and answer arriving as one piece" (demand 3)
-abbrev pub reset : Said Client (Unit {0}) → Exchanged → List ℕ → Turn
+abbrev pub reset : ClientSaid → Exchanged → List ℕ → Round
 reset i x lengths =
     let d = pieceSays sendRoom (i .next) (x .text) freshStore in
     record {
       answer = d .answer;
       text = d .text;
-      bench = record { client = d .next; store = stored (i .next .under) (d .answer) (i .next .got) (x .text) freshStore; server = x .next; lengths = lengths };
+      bench = record { client = d .next; store = storeAfter (i .next) (d .answer) (x .text) freshStore; server = x .next; lengths = lengths };
       handed = x .handed;
     }
 
 -- ATZ, and then ATE0, ATL0, ATS0, ATSP0 and ATH1
-unfoldable pub initialised : Bool → List ℕ → Turn
+unfoldable pub initialised : Bool → List ℕ → Round
 initialised repeat lengths =
     let i = initSays sendRoom (freshClient true repeat) in
     onward 5 (reset i (exchanged replyRoom freshSession (i .text) []) lengths) []
@@ -115,15 +113,13 @@ initialised repeat lengths =
 -- ---- a query
 
 -- "one PID through `query_pid`, more through `query_pids`"
-abbrev pub startSays : Client → List ℕ → ℕ → Said Client (Unit {0})
-startSays c [] count = queryPidsSays sendRoom c [] count
-startSays c (p ∷ []) count = queryPidSays sendRoom c p count
-startSays c (p ∷ q ∷ ps) count = queryPidsSays sendRoom c (p ∷ q ∷ ps) count
+abbrev pub startSays : Client → List ℕ → ℕ → ClientSaid
+startSays c pids count = querySays sendRoom c pids count (not (eqb (length pids) 1))
 
 -- the query is started; a repeat that meets `?` is followed by the query in full
-abbrev pub asking : Bench → Said Client (Unit {0}) → List ℕ → Turn
+abbrev pub asking : Bench → ClientSaid → List ℕ → Round
 asking b s list =
-    onward 1 (turn (record { client = s .next; store = b .store; server = b .server; lengths = b .lengths }) (s .text) list) list
+    onward 1 (round (record { client = s .next; store = b .store; server = b .server; lengths = b .lengths }) (s .text) list) list
 
 -- A query's part of the record or the number that ends the run, where the run then stands, and the OBD commands handed out.
 pub record Part : Type 0 where
@@ -132,22 +128,22 @@ pub record Part : Type 0 where
   pub handed : List (List ℕ)
 
 -- "the number of values as a group number and the values"
-abbrev pub partOf : Said Client ℕ → Answer ℕ → Answer (List ℕ)
-partOf f (refused n) = refused n
-partOf f (result n) = result (groupBytes n ++ f .text)
+abbrev pub partOf : Answer Progress → List ℕ → Answer (List ℕ)
+partOf (refused n) text = refused n
+partOf (result p) text = result (groupBytes (valueCount p) ++ text)
 
 -- by what the query's reply said: the query is finished
-abbrev pub finishing : Turn → Answer Progress → Part
+abbrev pub finishing : Round → Answer Progress → Part
 finishing t (refused n) = record { answer = refused n; bench = t .bench; handed = t .handed }
 finishing t (result p) =
     let f = finishSays valuesRoom (t .bench .client) (t .bench .store) in
     record {
-      answer = partOf f (f .answer);
+      answer = partOf (f .answer) (f .text);
       bench = record { client = f .next; store = t .bench .store; server = t .bench .server; lengths = t .bench .lengths };
       handed = t .handed;
     }
 
-abbrev pub finished : Turn → Part
+abbrev pub finished : Round → Part
 finished t = finishing t (t .answer)
 
 unfoldable pub part : Bench → Query → Part
@@ -188,7 +184,7 @@ asked room b (q ∷ qs) =
 -- ---- the run
 
 -- by what the initialisation came to
-abbrev pub begun : ℕ → Turn → Answer Progress → List Query → Run
+abbrev pub begun : ℕ → Round → Answer Progress → List Query → Run
 begun room t (refused n) qs = ended n (t .handed)
 begun room t (result p) qs = after [] (t .handed) (asked room (t .bench) qs)
 
@@ -206,7 +202,7 @@ runSays repeat lengths room s = runRead repeat lengths room (script s)
 -- the cases of RunAnswer
 abbrev pub runAnswer : RunAnswer → Answer (Unit {0})
 runAnswer answer.Complete = result tt
-runAnswer (answer.Refused n) = refused n
+runAnswer (answer.Refused q) = refused (number q)
 
 -- A run as the host sees it: its answer, how many bytes of the record stand, and the record buffer.
 pub record Recorded : Type 0 where
@@ -218,5 +214,5 @@ abbrev pub recorded : BenchRun → List ℕ → Recorded
 recorded r out = record { answer = runAnswer (r .answer); written = r .written; out = out }
 
 -- the parts stand at the front of the lent buffer, and past them it keeps what it held
-abbrev pub lent : Run → List ℕ → Recorded
-lent d out = record { answer = d .answer; written = length (joined (d .parts)); out = sets out 0 (joined (d .parts)) }
+abbrev pub runLent : Run → List ℕ → Recorded
+runLent d out = record { answer = d .answer; written = length (joined (d .parts)); out = sets out 0 (joined (d .parts)) }

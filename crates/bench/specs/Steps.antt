@@ -1,31 +1,31 @@
 -- What the private steps of the code do. No public contract cites these.
 use mathlib.Core.Path.{_≡_}
-use mathlib.Core.Bool.{Bool, true, false}
+use mathlib.Core.Bool.{Bool, true}
 use mathlib.Core.List.{List, [], _++_}
-use Prim.Native.Nat.{ℕ, zero, suc, _+_, _≤_}
+use Prim.Native.Nat.{ℕ, _+_, _≤_}
 use lib.ListN.{length, take, drop}
 use lib.Seq.{sets}
-use Rattle.wire.specs.Answer.{Answer, result, refused}
-use Rattle.wire.specs.Call.{Said, Served, lent}
+use Rattle.wire.specs.Answer.{Answer, result, refused, number}
 use Rattle.wire.specs.Text.{joined}
 use Rattle.group.specs.Group.{groupBytes}
 use Rattle.server_session.specs.declared.ServerSession.{ServerSession}
 use Rattle.server_session.specs.Session.{Session, session, freshSession}
-use Rattle.client_session.specs.Session.{Client, client, freshClient}
+use Rattle.client_session.specs.declared.ClientStep.{ClientStep}
+use Rattle.client_session.specs.Session.{client, freshClient}
+use Rattle.client_session.specs.Call.{sent, complete, ClientSaid, ClientServed, clientLent, clientAnswer, clientStep}
 use Rattle.client_session.specs.Start.{initSays}
-use Rattle.client_session.specs.declared.PieceAnswer.{PieceAnswer}
-use Rattle.client_session.specs.declared.FinishAnswer.{FinishAnswer}
-use Rattle.client_session.specs.Piece.{Progress, awaited, sent, over, complete, pieceAnswer, Received, pieceReceived}
-use Rattle.client_session.specs.Finish.{finishAnswer}
+use Rattle.client_session.specs.Piece.{storeAfter}
 use Rattle.bench.specs.declared.Delivery.{Delivery}
 use Rattle.bench.specs.declared.ExchangeStep.{ExchangeStep}
 use Rattle.bench.specs.Exchange.{Exchanged, exchanged}
 use Rattle.bench.specs.Deliver.{Delivered}
 use Rattle.script.specs.Script.{Query, script}
 use Rattle.bench.specs.declared.Bench as code
+use Rattle.bench.specs.declared.PartAnswer.{PartAnswer}
+use Rattle.bench.specs.declared.PartAnswer.the-variants as part
 use Rattle.bench.specs.declared.PartStep.{PartStep}
-use Rattle.bench.specs.declared.Turn as code-turn
-use Rattle.bench.specs.Run.{Bench, Turn, Part, Run, Recorded, sendRoom, replyRoom, reset, finished, standing}
+use Rattle.bench.specs.declared.Round as code-round
+use Rattle.bench.specs.Run.{Bench, Round, Part, Run, Recorded, sendRoom, replyRoom, reset, finished, standing}
 
 -- An exchange as the code has it: how many bytes stand in the lent out buffer, the next session, and the buffer.
 pub record ExchangeServed : Type 0 where
@@ -41,38 +41,30 @@ exchangeLent x out = record { written = length (x .text); next = x .next; out = 
 
 -- A delivery as the code has it, where ks are all piece lengths.
 pub record DeliveryServed : Type 0 where
-  pub served : Served Client Progress
+  pub served : ClientServed
   pub store : List ℕ
   pub lengths : List ℕ
 
 abbrev pub deliveryStep : List ℕ → Delivery → List ℕ → List ℕ → DeliveryServed
 deliveryStep ks r store out = record {
-  served = record { answer = pieceAnswer (r .answer); written = r .written; next = client (r .session); out = out };
+  served = record { answer = clientAnswer (r .answer); written = r .written; next = client (r .session); out = out };
   store = store;
   lengths = drop (r .used) ks;
 }
 
 abbrev pub deliveryLent : Delivered → List ℕ → DeliveryServed
-deliveryLent d out = record { served = lent (d .said) out; store = d .store; lengths = d .lengths }
-
--- more of the reply is awaited
-abbrev pub awaits : Answer Progress → Bool
-awaits (result awaited) = true
-awaits (result sent) = false
-awaits (result over) = false
-awaits (result complete) = false
-awaits (refused n) = false
+deliveryLent d out = record { served = clientLent (d .said) out; store = d .store; lengths = d .lengths }
 
 -- both sessions as the code holds them
 abbrev pub benchOf : code.Bench → List ℕ → List ℕ → Bench
 benchOf b store lengths = record { client = client (b .client); store = store; server = session (b .server); lengths = drop (b .used) lengths }
 
--- a turn as the code holds it; it keeps no list of the commands handed out
-abbrev pub turnOf : code-turn.Turn → List ℕ → List ℕ → List ℕ → Turn
-turnOf r out store lengths = record { answer = pieceAnswer (r .answer); text = take (r .written) out; bench = benchOf (r .bench) store lengths; handed = [] }
+-- a round as the code holds it; it keeps no list of the commands handed out
+abbrev pub roundOf : code-round.Round → List ℕ → List ℕ → List ℕ → Round
+roundOf r out store lengths = record { answer = clientAnswer (r .answer); text = take (r .written) out; bench = benchOf (r .bench) store lengths; handed = [] }
 
 -- a fresh client and a fresh server after ATZ
-abbrev pub resetFresh : Bool → List ℕ → Turn
+abbrev pub resetFresh : Bool → List ℕ → Round
 resetFresh repeat lengths =
     let i = initSays sendRoom (freshClient true repeat) in
     reset i (exchanged replyRoom freshSession (i .text) []) lengths
@@ -86,8 +78,8 @@ abbrev pub FreshHears : List ℕ → List ℕ → ExchangeStep → List ℕ → 
 FreshHears command reply x reply₁ = exchangeStep x reply₁ ≡ exchangeLent (exchanged (length reply) freshSession command []) reply
 
 -- The reply has been delivered, and the server waits.
-pub record Back (d : Delivered) (server : ServerSession) (r : code-turn.Turn) (out store lengths : List ℕ) : Type 0 where
-  pub answer : pieceAnswer (r .answer) ≡ d .said .answer
+pub record Back (d : Delivered) (server : ServerSession) (r : code-round.Round) (out store lengths : List ℕ) : Type 0 where
+  pub answer : clientAnswer (r .answer) ≡ d .said .answer
   pub text : take (r .written) out ≡ d .said .text
   pub next : client (r .bench .client) ≡ d .said .next
   pub kept : store ≡ d .store
@@ -97,14 +89,15 @@ pub record Back (d : Delivered) (server : ServerSession) (r : code-turn.Turn) (o
   pub size : length out ≡ sendRoom
 
 -- The same for a reply that has been delivered as one piece; no piece length is used up.
-pub record OnePiece (d : Received) (server : ServerSession) (r : code-turn.Turn) (out store : List ℕ) : Type 0 where
-  pub says : pieceReceived (record { answer = r .answer; written = r .written; session = r .bench .client }) out store ≡ d
+pub record OnePiece (d : ClientServed) (kept : List ℕ) (server : ServerSession) (r : code-round.Round) (out store : List ℕ) : Type 0 where
+  pub says : clientStep (record { answer = r .answer; written = r .written; session = r .bench .client }) out ≡ d
+  pub stored : store ≡ kept
   pub waits : r .bench .server ≡ server
   pub unused : r .bench .used ≡ 0
 
 -- A query has been started, and its command is the next to be sent.
-pub record Begins (s : Said Client (Unit {0})) (b : code.Bench) (r : code-turn.Turn) (out : List ℕ) : Type 0 where
-  pub answer : pieceAnswer (r .answer) ≡ result sent
+pub record Begins (s : ClientSaid) (b : code.Bench) (r : code-round.Round) (out : List ℕ) : Type 0 where
+  pub answer : clientAnswer (r .answer) ≡ result sent
   pub text : take (r .written) out ≡ s .text
   pub next : client (r .bench .client) ≡ s .next
   pub waits : r .bench .server ≡ b .server
@@ -112,61 +105,32 @@ pub record Begins (s : Said Client (Unit {0})) (b : code.Bench) (r : code-turn.T
   pub inside : r .written ≤ length out
   pub size : length out ≡ sendRoom
 
--- A turn does what is said.
-pub record Does (t : Turn) (r : code-turn.Turn) (out reply store lengths : List ℕ) : Type 0 where
-  pub answer : pieceAnswer (r .answer) ≡ t .answer
+-- A round does what is said.
+pub record RoundDoes (t : Round) (r : code-round.Round) (out reply store lengths : List ℕ) : Type 0 where
+  pub answer : clientAnswer (r .answer) ≡ t .answer
   pub text : take (r .written) out ≡ t .text
   pub bench : benchOf (r .bench) store lengths ≡ t .bench
   pub inside : r .written ≤ length out
   pub room : Room out reply
 
 -- The same where nothing more is to be sent.
-pub record Comes (t : Turn) (r : code-turn.Turn) (reply store lengths : List ℕ) : Type 0 where
-  pub answer : pieceAnswer (r .answer) ≡ t .answer
+pub record Comes (t : Round) (r : code-round.Round) (reply store lengths : List ℕ) : Type 0 where
+  pub answer : clientAnswer (r .answer) ≡ t .answer
   pub bench : benchOf (r .bench) store lengths ≡ t .bench
   pub room : length reply ≡ replyRoom
-
-abbrev pub isSentAnswer : Answer Progress → Bool
-isSentAnswer (refused n) = false
-isSentAnswer (result awaited) = false
-isSentAnswer (result sent) = true
-isSentAnswer (result over) = false
-isSentAnswer (result complete) = false
-
-abbrev pub isSent : PieceAnswer → Bool
-isSent a = isSentAnswer (pieceAnswer a)
-
--- the number in what a piece says, 0 for none
-abbrev pub numberOf : {A : Type 0} → Answer A → ℕ
-numberOf (result a) = 0
-numberOf (refused n) = n
-
-abbrev pub pieceNumber : PieceAnswer → ℕ
-pieceNumber a = numberOf (pieceAnswer a)
-
--- the same in what a finish says, and the number of values
-abbrev pub finishNumber : FinishAnswer → ℕ
-finishNumber a = numberOf (finishAnswer a)
-
-abbrev pub countIn : Answer ℕ → ℕ
-countIn (result n) = n
-countIn (refused n) = 0
-
-abbrev pub finishCount : FinishAnswer → ℕ
-finishCount a = countIn (finishAnswer a)
 
 -- the query of a client whose reply is complete is finished
 abbrev pub closed : Bench → Part
 closed b = finished (record { answer = result complete; text = []; bench = b; handed = [] })
 
 -- a query's part as the code holds it: the count and the values apart
-abbrev pub partAnswer : ℕ → ℕ → List ℕ → Answer (List ℕ)
-partAnswer zero count text = result (groupBytes count ++ text)
-partAnswer (suc n) count text = refused (suc n)
+abbrev pub partText : PartAnswer → List ℕ → Answer (List ℕ)
+partText (part.Values n) text = result (groupBytes n ++ text)
+partText (part.Refused q) text = refused (number q)
 
 -- A query does what is said, and its values stand in the lent buffer.
 pub record PartDoes (p : Part) (r : PartStep) (values store lengths : List ℕ) : Type 0 where
-  pub answer : partAnswer (r .number) (r .count) (take (r .written) values) ≡ p .answer
+  pub answer : partText (r .answer) (take (r .written) values) ≡ p .answer
   pub bench : benchOf (r .bench) store lengths ≡ p .bench
   pub inside : r .written ≤ length values
   pub room : length values ≡ replyRoom

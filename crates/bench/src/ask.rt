@@ -1,23 +1,22 @@
 // One query of a script, from its start to its values.
 use crate::Bench;
+use crate::PartAnswer;
 use crate::PartStep;
-use crate::Turn;
-use crate::turns;
+use crate::Round;
+use crate::rounds;
+use client_session::ClientAnswer;
 use client_session::ClientSession;
-use client_session::FinishAnswer;
-use client_session::PieceAnswer;
-use client_session::StartStep;
+use client_session::ClientStep;
 use query::EcuCount;
 ghost use mathlib.Core.Path.{_≡_};
 ghost use mathlib.Core.List.{List, []};
 ghost use Prim.Native.Nat.{ℕ, _≤_};
 ghost use lib.ListN.{length};
-ghost use Rattle.wire.specs.Call.{lent};
 ghost use Rattle.query.specs.Query.{countOf};
 ghost use Rattle.client_session.specs.Session.{client};
-ghost use Rattle.client_session.specs.Start.{startServed};
-ghost use Rattle.bench.specs.Run.{sendRoom, replyRoom, startSays, asking, finished};
-ghost use Rattle.bench.specs.Steps.{benchOf, turnOf, Begins, Comes, pieceNumber, finishNumber, finishCount, closed, PartDoes};
+ghost use Rattle.client_session.specs.Call.{clientLent, clientAnswer, clientStep};
+ghost use Rattle.bench.specs.Run.{sendRoom, replyRoom, startSays, asking, partOf, finished};
+ghost use Rattle.bench.specs.Steps.{benchOf, roundOf, Begins, Comes, partText, closed, PartDoes};
 
 // The number of ECUs that a query waits for, from its count+1 in a script.
 fn ecu_count(count: u16) -> EcuCount
@@ -31,9 +30,9 @@ fn ecu_count(count: u16) -> EcuCount
 }
 
 // Starts a query: one PID through `query_pid`, more through `query_pids`.
-fn start(session: ClientSession, pids: &[u8], count: u16, out: &mut [u8]) -> StartStep
+fn start(session: ClientSession, pids: &[u8], count: u16, out: &mut [u8]) -> ClientStep
     requires { ⌜ (count ≤ 256) × (length (now out) ≡ sendRoom) ⌝ }
-    ensures { λ r. ⌜ startServed r (now (out .exit)) ≡ lent (startSays (client session) (now (pids .entry)) count) (now (out .entry)) ⌝ }
+    ensures { λ r. ⌜ clientStep r (now (out .exit)) ≡ clientLent (startSays (client session) (now (pids .entry)) count) (now (out .entry)) ⌝ }
 {
     let ecus = ecu_count(count);
     if pids.len() == 1 {
@@ -43,7 +42,7 @@ fn start(session: ClientSession, pids: &[u8], count: u16, out: &mut [u8]) -> Sta
 }
 
 // The client's command for a query is the next to be sent.
-fn begin(bench: Bench, pids: &[u8], count: u16, out: &mut [u8]) -> Turn
+fn begin(bench: Bench, pids: &[u8], count: u16, out: &mut [u8]) -> Round
     requires { ⌜ (count ≤ 256) × (length (now out) ≡ sendRoom) ⌝ }
     ensures { λ r. ⌜ Begins (startSays (client (bench .client)) (now (pids .entry)) count) bench r (now (out .exit)) ⌝ }
 {
@@ -51,8 +50,8 @@ fn begin(bench: Bench, pids: &[u8], count: u16, out: &mut [u8]) -> Turn
     let server = bench.server;
     let begun = start(session, pids, count, out);
     let client = begun.session;
-    Turn {
-        answer: PieceAnswer::Sent,
+    Round {
+        answer: ClientAnswer::Sent,
         written: begun.written,
         bench: Bench {
             client,
@@ -71,54 +70,27 @@ fn ask(
     lengths: &[u8],
     reply: &mut [u8],
     store: &mut [u8],
-) -> Turn
+) -> Round
     requires { ⌜ (count ≤ 256) × (length (now reply) ≡ replyRoom) ⌝ }
     ensures { λ r. ⌜ Comes (asking (benchOf bench (now (store .entry)) (now (lengths .entry))) (startSays (client (bench .client)) (now (pids .entry)) count) (now (list .entry))) r (now (reply .exit)) (now (store .exit)) (now (lengths .entry)) ⌝ }
 {
     let mut out = [0u8; 80];
     let begun = begin(bench, pids, count, &mut out);
-    turns::onward(begun, 2, list, lengths, &mut out, reply, store)
+    rounds::onward(begun, 2, list, lengths, &mut out, reply, store)
 }
 
-// The number of document 01 in what a piece says, 0 for none.
-pub(crate) fn piece_number(answer: PieceAnswer) -> u8
-    ensures { λ r. ⌜ r ≡ pieceNumber answer ⌝ }
+// What an answer comes to in the record: so many values, or the number that ends the run.
+pub(crate) fn part_answer(answer: ClientAnswer) -> PartAnswer
+    ensures { λ r. ⌜ ((text : List ℕ) → partText r text ≡ partOf (clientAnswer answer) text) ⌝ }
 {
     match answer {
-        PieceAnswer::Awaited => 0,
-        PieceAnswer::Sent => 0,
-        PieceAnswer::Over => 0,
-        PieceAnswer::Complete => 0,
-        PieceAnswer::OutOfTurn => 1,
-        PieceAnswer::TooLong => 3,
-        PieceAnswer::SmallBuffer => 6,
-        PieceAnswer::Failed => 7,
-        PieceAnswer::TooMuch => 8,
-        PieceAnswer::NotAscii => 9,
-    }
-}
-
-// The same in what a finish says.
-fn finish_number(answer: FinishAnswer) -> u8
-    ensures { λ r. ⌜ r ≡ finishNumber answer ⌝ }
-{
-    match answer {
-        FinishAnswer::Values(_) => 0,
-        FinishAnswer::OutOfTurn => 1,
-        FinishAnswer::SmallBuffer => 6,
-        FinishAnswer::NotAscii => 9,
-    }
-}
-
-// How many values a finish tells of.
-fn finish_count(answer: FinishAnswer) -> usize
-    ensures { λ r. ⌜ r ≡ finishCount answer ⌝ }
-{
-    match answer {
-        FinishAnswer::Values(count) => count,
-        FinishAnswer::OutOfTurn => 0,
-        FinishAnswer::SmallBuffer => 0,
-        FinishAnswer::NotAscii => 0,
+        ClientAnswer::Sent => PartAnswer::Values(0),
+        ClientAnswer::Awaited => PartAnswer::Values(0),
+        ClientAnswer::Over => PartAnswer::Values(0),
+        ClientAnswer::Complete => PartAnswer::Values(0),
+        ClientAnswer::Values(count) => PartAnswer::Values(count),
+        ClientAnswer::Refused(refusal) => PartAnswer::Refused(refusal),
+        ClientAnswer::Failed(refusal) => PartAnswer::Refused(refusal),
     }
 }
 
@@ -133,8 +105,7 @@ fn close(bench: Bench, store: &[u8], values: &mut [u8]) -> PartStep
     let answer = step.answer;
     let client = step.session;
     PartStep {
-        number: finish_number(answer),
-        count: finish_count(answer),
+        answer: part_answer(answer),
         written: step.written,
         bench: Bench {
             client,
@@ -145,17 +116,16 @@ fn close(bench: Bench, store: &[u8], values: &mut [u8]) -> PartStep
 }
 
 // Finishes a query, unless its reply got a number.
-fn finish(asked: Turn, store: &[u8], values: &mut [u8]) -> PartStep
+fn finish(asked: Round, store: &[u8], values: &mut [u8]) -> PartStep
     requires { ⌜ length (now values) ≡ replyRoom ⌝ }
-    ensures { λ r. ⌜ ((lengths : List ℕ) → PartDoes (finished (turnOf asked [] (now (store .entry)) lengths)) r (now (values .exit)) (now (store .entry)) lengths) ⌝ }
+    ensures { λ r. ⌜ ((lengths : List ℕ) → PartDoes (finished (roundOf asked [] (now (store .entry)) lengths)) r (now (values .exit)) (now (store .entry)) lengths) ⌝ }
 {
     let answer = asked.answer;
     let bench = asked.bench;
-    let number = piece_number(answer);
-    if number != 0 {
+    let told = part_answer(answer);
+    if let PartAnswer::Refused(_) = told {
         return PartStep {
-            number,
-            count: 0,
+            answer: told,
             written: 0,
             bench,
         };

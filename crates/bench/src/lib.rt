@@ -1,14 +1,15 @@
 // The bench run: a script of queries through a client session joined to a server session, and the hire record of it (document 01's terms).
 mod ask;
 mod exchange;
-mod turns;
+mod rounds;
 
+use client_session::ClientAnswer;
 use client_session::ClientSession;
-use client_session::PieceAnswer;
 use script::QueryStep;
 use script::ScriptCheck;
 use script::ScriptCursor;
 use server_session::ServerSession;
+use wire::Refusal;
 ghost use mathlib.Core.Path.{_≡_};
 ghost use mathlib.Core.List.{_++_};
 ghost use Prim.Native.Nat.{_-_, _≤_};
@@ -16,14 +17,14 @@ ghost use lib.ListN.{length, take};
 ghost use Rattle.wire.specs.Put.{Put};
 ghost use Rattle.group.specs.Group.{groupBytes};
 ghost use Rattle.bench.specs.declared.RunAnswer.the-variants.{Refused};
-ghost use Rattle.bench.specs.Run.{replyRoom, asked, runSays, recorded, lent};
-ghost use Rattle.bench.specs.Steps.{benchOf, partAnswer, added, lentFrom, IsScript, queriesOf};
+ghost use Rattle.bench.specs.Run.{replyRoom, asked, runSays, recorded, runLent};
+ghost use Rattle.bench.specs.Steps.{benchOf, partText, added, lentFrom, IsScript, queriesOf};
 
 // How a run ended.
 pub enum RunAnswer {
     Complete,
-    // A number of document 01: 3 or 5 before anything ran; 8, or 6 when a query's part overruns the record buffer.
-    Refused(u8),
+    // 3 or 5 before anything ran; 8, or 6 when a query's part overruns the record buffer.
+    Refused(Refusal),
 }
 
 pub struct BenchRun {
@@ -49,7 +50,7 @@ struct ExchangeStep {
 // What the client was told.
 struct Delivery {
     // What the last piece that was given says.
-    answer: PieceAnswer,
+    answer: ClientAnswer,
     // How many bytes of out the client sends next.
     written: usize,
     session: ClientSession,
@@ -58,29 +59,32 @@ struct Delivery {
 }
 
 // Where the run stands after a command.
-struct Turn {
+struct Round {
     // What the reply said to the client.
-    answer: PieceAnswer,
+    answer: ClientAnswer,
     // How many bytes of out the client sends next.
     written: usize,
     bench: Bench,
 }
 
-// A query's values, or the number that ends the run.
+// How many values a query gave, or the number that ends the run.
+enum PartAnswer {
+    Values(usize),
+    Refused(Refusal),
+}
+
 struct PartStep {
-    // 0 for none.
-    number: u8,
-    // How many values stand in the lent buffer, and how many bytes they take.
-    count: usize,
+    answer: PartAnswer,
+    // How many bytes of the lent buffer the values take.
     written: usize,
     bench: Bench,
 }
 
-fn refused(number: u8, written: usize) -> BenchRun
-    ensures { λ r. ⌜ r ≡ record { answer = Refused number; written = written } ⌝ }
+fn refused(refusal: Refusal, written: usize) -> BenchRun
+    ensures { λ r. ⌜ r ≡ record { answer = Refused refusal; written = written } ⌝ }
 {
     BenchRun {
-        answer: RunAnswer::Refused(number),
+        answer: RunAnswer::Refused(refusal),
         written,
     }
 }
@@ -95,26 +99,27 @@ fn put_part(buffer: &mut [u8], at: usize, count: usize, values: &[u8]) -> usize
 
 // Writes a query's part, which has size bytes of values, into the record from position at on, if there is room for it.
 fn add_part(
-    number: u8,
-    count: usize,
+    answer: PartAnswer,
     size: usize,
     values: &[u8],
     buffer: &mut [u8],
     at: usize,
 ) -> BenchRun
     requires { ⌜ (size ≤ length (now values)) × (at ≤ length (now buffer)) ⌝ }
-    ensures { λ r. ⌜ recorded r (now (buffer .exit)) ≡ lentFrom at (added (length (now (buffer .entry)) - at) (partAnswer number count (take size (now (values .entry))))) (now (buffer .entry)) ⌝ }
+    ensures { λ r. ⌜ recorded r (now (buffer .exit)) ≡ lentFrom at (added (length (now (buffer .entry)) - at) (partText answer (take size (now (values .entry))))) (now (buffer .entry)) ⌝ }
 {
-    if number != 0 {
-        return refused(number, at);
-    }
-    if buffer.len() - at < group::group_size(count) + size {
-        return refused(6, at);
-    }
-    let end = put_part(buffer, at, count, &values[..size]);
-    BenchRun {
-        answer: RunAnswer::Complete,
-        written: end,
+    match answer {
+        PartAnswer::Refused(refusal) => refused(refusal, at),
+        PartAnswer::Values(count) => {
+            if buffer.len() - at < group::group_size(count) + size {
+                return refused(Refusal::SmallBuffer, at);
+            }
+            let end = put_part(buffer, at, count, &values[..size]);
+            BenchRun {
+                answer: RunAnswer::Complete,
+                written: end,
+            }
+        }
     }
 }
 
@@ -128,7 +133,7 @@ fn ask_all(
     store: &mut [u8],
 ) -> BenchRun
     requires { ⌜ IsScript (now script) × (length (now work) ≡ replyRoom) ⌝ }
-    ensures { λ r. ⌜ recorded r (now (buffer .exit)) ≡ lent (asked (length (now (buffer .entry))) (benchOf bench (now (store .entry)) (now (lengths .entry))) (queriesOf (now (script .entry)))) (now (buffer .entry)) ⌝ }
+    ensures { λ r. ⌜ recorded r (now (buffer .exit)) ≡ runLent (asked (length (now (buffer .entry))) (benchOf bench (now (store .entry)) (now (lengths .entry))) (queriesOf (now (script .entry)))) (now (buffer .entry)) ⌝ }
 {
     let mut cursor = ScriptCursor::new();
     let mut at: usize = 0;
@@ -157,7 +162,8 @@ fn ask_all(
             work,
             store,
         );
-        let added = add_part(part.number, part.count, part.written, work, buffer, at);
+        let given = part.answer;
+        let added = add_part(given, part.written, work, buffer, at);
         let answer = added.answer;
         if let RunAnswer::Refused(_) = answer {
             return added;
@@ -171,15 +177,15 @@ fn ask_all(
 // A run of a checked script from fresh sessions.
 fn run_checked(script: &[u8], lengths: &[u8], repeat: bool, buffer: &mut [u8]) -> BenchRun
     requires { ⌜ IsScript (now script) ⌝ }
-    ensures { λ r. ⌜ recorded r (now (buffer .exit)) ≡ lent (runSays repeat (now (lengths .entry)) (length (now (buffer .entry))) (now (script .entry))) (now (buffer .entry)) ⌝ }
+    ensures { λ r. ⌜ recorded r (now (buffer .exit)) ≡ runLent (runSays repeat (now (lengths .entry)) (length (now (buffer .entry))) (now (script .entry))) (now (buffer .entry)) ⌝ }
 {
     let mut work = [0u8; 33026];
     let mut store = [0u8; 4096];
-    let begun = turns::initialise(repeat, lengths, &mut work, &mut store);
+    let begun = rounds::initialise(repeat, lengths, &mut work, &mut store);
     let answer = begun.answer;
-    let number = ask::piece_number(answer);
-    if number != 0 {
-        return refused(number, 0);
+    let told = ask::part_answer(answer);
+    if let PartAnswer::Refused(refusal) = told {
+        return refused(refusal, 0);
     }
     let bench = begun.bench;
     ask_all(script, lengths, bench, buffer, &mut work, &mut store)
@@ -188,10 +194,10 @@ fn run_checked(script: &[u8], lengths: &[u8], repeat: bool, buffer: &mut [u8]) -
 // Runs a script, with the lengths of the pieces that the server's bytes are handed to the client in, and with repeat on or off. The parts stand at the front of
 // the record buffer.
 pub fn run(script: &[u8], lengths: &[u8], repeat: bool, buffer: &mut [u8]) -> BenchRun
-    ensures { λ r. ⌜ recorded r (now (buffer .exit)) ≡ lent (runSays repeat (now (lengths .entry)) (length (now (buffer .entry))) (now (script .entry))) (now (buffer .entry)) ⌝ }
+    ensures { λ r. ⌜ recorded r (now (buffer .exit)) ≡ runLent (runSays repeat (now (lengths .entry)) (length (now (buffer .entry))) (now (script .entry))) (now (buffer .entry)) ⌝ }
 {
     match script::check_script(script) {
         ScriptCheck::Queries(_) => run_checked(script, lengths, repeat, buffer),
-        ScriptCheck::Refused(refusal) => refused(wire::number(refusal), 0),
+        ScriptCheck::Refused(refusal) => refused(refusal, 0),
     }
 }

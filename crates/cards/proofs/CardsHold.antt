@@ -17,25 +17,26 @@ use Rattle.server_session.specs.Session.{freshSession}
 use Rattle.server_session.specs.Call.{ServerSaid}
 use Rattle.server_session.specs.Bytes.{canonical, byteTaken, byteSays, bytesSay}
 use Rattle.client_session.specs.Session.{freshClient}
+use Rattle.client_session.specs.Call.{sent}
 use Rattle.server_session.specs.Replies.{answerSays, replySays}
 use Rattle.query.specs.Query.{queryText}
 use Rattle.reply_lines.specs.Lines.{textLines}
 use Rattle.reply_lines.specs.Decode.{textLine, replyLines}
 use Rattle.reply_values.specs.Values.{walked, answerOrder}
-use Rattle.client_session.specs.Start.{queryPidsSays}
+use Rattle.client_session.specs.Start.{querySays}
 use Rattle.cards.specs.Cards.{cards, Hold}
 
 pub cards-hold : Hold cards
-unfolding has high isSpace raised hexDigit digit leading j1979 mode01Lengths groupBytes lineList valueFormat atKind lineText replyText canonical unless byteTaken byteSays bytesSay answerSays replySays queryText textLines textLine replyLines walked answerOrder queryPidsSays
+unfolding has high isSpace raised hexDigit digit leading j1979 mode01Lengths groupBytes lineList valueFormat atKind lineText replyText canonical unless byteTaken byteSays bytesSay answerSays replySays queryText textLines textLine replyLines walked answerOrder querySays
 cards-hold = (refl, (refl, (refl, (refl, (refl, (refl, (refl, (refl, (refl, (refl, (refl, (refl, (refl, (refl, tt))))))))))))))
 
 -- card 13: six PIDs pass, seven get 2; byte 128 of a line is stored, the next gets 10
-pub six-pids : queryPidsSays 80 (freshClient true true) (replicate 6 0x0C) 0 .answer ≡ result tt
-unfolding queryPidsSays queryText hexDigit
+pub six-pids : querySays 80 (freshClient true true) (replicate 6 0x0C) 0 true .answer ≡ result sent
+unfolding querySays unless queryText hexDigit
 six-pids = refl
 
-pub seven-pids : queryPidsSays 80 (freshClient true true) (replicate 7 0x0C) 0 .answer ≡ refused 2
-unfolding queryPidsSays queryText hexDigit
+pub seven-pids : querySays 80 (freshClient true true) (replicate 7 0x0C) 0 true .answer ≡ refused 2
+unfolding querySays unless queryText hexDigit
 seven-pids = refl
 
 abbrev long : ServerSaid

@@ -15,12 +15,12 @@ use Rattle.reply_values.specs.Values.{walked, answerOrder}
 use Rattle.reply_values.specs.Learn.{learnLength}
 use Rattle.reply_values.specs.Read.{readReply}
 use Rattle.client_command.specs.Commands.{framingEffect}
-use Rattle.client_session.specs.Start.{commandSays, queryPidSays, queryPidsSays}
+use Rattle.client_session.specs.Start.{commandSays, querySays}
 use Rattle.client_session.specs.Piece.{replyTakes, pieceSays}
 use Rattle.client_session.specs.Finish.{finishSays}
 use Rattle.cards.specs.Example.{AsExpected}
 use Rattle.cards.specs.Learning.{learning}
 
 pub learning-holds : AsExpected learning
-unfolding isSpace raised has high hexDigit digit leading j1979 mode01Lengths groupBytes valueFormat queryText textLines textLine replyLines walked answerOrder learnLength unless readReply framingEffect commandSays queryPidSays queryPidsSays replyTakes pieceSays finishSays
+unfolding isSpace raised has high hexDigit digit leading j1979 mode01Lengths groupBytes valueFormat queryText textLines textLine replyLines walked answerOrder learnLength unless readReply framingEffect commandSays querySays replyTakes pieceSays finishSays
 learning-holds = (refl, (refl, (refl, (refl, (refl, (refl, (refl, (refl, (refl, (refl, (refl, (refl, (refl, (refl, (refl, (refl, (refl, (refl, (refl, (refl, tt))))))))))))))))))))

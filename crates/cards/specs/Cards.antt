@@ -17,7 +17,7 @@ use Rattle.server_session.specs.Call.{ServerSaid}
 use Rattle.server_session.specs.Bytes.{bytesSay}
 use Rattle.server_session.specs.Replies.{answerSays, replySays}
 use Rattle.client_session.specs.Session.{freshClient}
-use Rattle.client_session.specs.Start.{queryPidsSays}
+use Rattle.client_session.specs.Start.{querySays}
 
 -- A card's number, what a definition gives, and what the card says.
 pub record Card : Type 0 where
@@ -66,7 +66,7 @@ cards =
     card 8 (replies (set false false false true) (line 0 (0x41 ∷ 0x0D ∷ 0x20 ∷ []))) (ascii "7E803410D20\r\r>") ∷
     card 9 (replies (set true true true true) (line 0 [])) (ascii "7E8 00 \r\n\r\n>") ∷
     card 10 (heard "\r" .text) (ascii "\r?\r\n\r\n>") ∷
-    card 11 (queryPidsSays 80 (freshClient true true) (0x0C ∷ 0x0D ∷ []) 2 .text) (ascii "010C0D 1\r") ∷
+    card 11 (querySays 80 (freshClient true true) (0x0C ∷ 0x0D ∷ []) 2 true .text) (ascii "010C0D 1\r") ∷
     card 12 (heard "ATL0\r" .text ++ atAnswer "ATL0\r") (ascii "ATL0\rOK\r\r>") ∷
     []
 

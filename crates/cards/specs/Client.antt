@@ -5,20 +5,21 @@ use mathlib.Core.List.{List, [], _∷_, _++_, map}
 use Prim.Native.Nat.{ℕ, zero, suc}
 use Prim.Native.String.{String}
 use lib.ListN.{length, replicate}
+use Rattle.wire.specs.declared.Refusal.the-variants.{OutOfTurn, PidCount, TooLong, NotAscii, SmallBuffer, Disconnected, ReplyTooLong, ReplyNotAscii}
 use Rattle.wire.specs.Answer.{result, refused}
-use Rattle.wire.specs.Call.{Said, lent}
 use Rattle.wire.specs.Text.{ascii, joined}
 use Rattle.pid.specs.Lengths.{mode01Lengths}
 use Rattle.server_state.specs.declared.FeatureSupport.the-variants as support
-use Rattle.server_state.specs.State.{fresh, countIn, withRepeat, withMulti}
+use Rattle.server_state.specs.State.{nothingLearned, countIn, withRepeat, withMulti}
+use Rattle.client_session.specs.declared.Command.the-variants as command
 use Rattle.client_session.specs.declared.Under.the-variants as under
 use Rattle.client_session.specs.declared.ClientSession.{ClientSession}
-use Rattle.client_session.specs.declared.StartAnswer.the-variants as start
-use Rattle.client_session.specs.declared.PieceAnswer.the-variants as piece
+use Rattle.client_session.specs.declared.ClientAnswer.the-variants as answer
 use Rattle.client_session.specs.declared.Failure.the-variants as failure
-use Rattle.client_session.specs.Session.{Client, freshClient, withUnder}
-use Rattle.client_session.specs.Start.{initSays, commandSays, queryPidSays, queryPidsSays, startAnswer, startServed}
-use Rattle.client_session.specs.Piece.{Progress, awaited, sent, over, complete, pieceSays, failureSays, pieceAnswer, isWrite, pieceReceived, pieceLent}
+use Rattle.client_session.specs.Session.{Client, client, freshClient, withUnder}
+use Rattle.client_session.specs.Call.{sent, awaited, over, complete, values, ClientSaid, clientLent, clientAnswer, clientStep}
+use Rattle.client_session.specs.Start.{initSays, commandSays, querySays}
+use Rattle.client_session.specs.Piece.{pieceSays, storeAfter, failureSays}
 use Rattle.client_session.specs.Pieces.{fed}
 use Rattle.bench.specs.Deliver.{pieces, delivered}
 use Rattle.bench.specs.Steps.{deliveryStep, deliveryLent}
@@ -32,18 +33,22 @@ abbrev pub new : Client
 new = freshClient true true
 
 -- a reply in one piece, and the session after it
-abbrev pub reply : Client → String → Said Client Progress
+abbrev pub reply : Client → String → ClientSaid
 reply c t = pieceSays 80 c (ascii t) emptyStore
 
+-- `010C` asked
+abbrev started : ClientSaid
+started = querySays 80 new (0x0C ∷ []) 0 false
+
 -- `010C 1` asked, and the session when its reply was complete and finished
-abbrev asking : Said Client (Unit {0})
-asking = queryPidSays 80 new 0x0C 2
+abbrev asking : ClientSaid
+asking = querySays 80 new (0x0C ∷ []) 2 false
 
 abbrev asked : Client
-asked = withUnder (reply (asking .next) "410C1AF8\r\r>" .next) under.Nothing 0
+asked = withUnder (reply (asking .next) "410C1AF8\r\r>" .next) under.Idle 0
 
-abbrev again : Said Client (Unit {0})
-again = queryPidSays 80 asked 0x0C 2
+abbrev again : ClientSaid
+again = querySays 80 asked (0x0C ∷ []) 2 false
 
 -- the initialisation, the session after n replies, and what goes out at each
 abbrev initialising : Client
@@ -59,11 +64,11 @@ sentAfter (suc n) c = reply c "OK\r\r>" .text ∷ sentAfter n (reply c "OK\r\r>"
 
 -- a raw command, and framing when its reply is complete
 abbrev framingAfter : Client → String → Bool
-framingAfter c t = reply (commandSays 80 c (ascii t) .next) "OK\r\r>" .next .known .framing
+framingAfter c t = reply (commandSays 80 c (ascii t) .next) "OK\r\r>" .next .server .framing
 
 -- a query with 4,090 bytes of its reply in the store
 abbrev nearlyFull : Client
-nearlyFull = withUnder (asking .next) under.Query 4090
+nearlyFull = withUnder (asking .next) (under.Awaiting command.Query) 4090
 
 abbrev fullStore : List ℕ
 fullStore = replicate 4096 65
@@ -72,13 +77,13 @@ fullStore = replicate 4096 65
 abbrev held : ℕ → ClientSession
 held n = record {
   «want_framing» = true;
-  server = fresh true;
+  server = nothingLearned true;
   last = record { bytes = replicate 18 0; len = 0 };
   query = record { bytes = ascii "010C" ++ replicate 14 0; len = 4 };
   pids = 0x0C ∷ replicate 5 0;
   «pids_len» = 1;
   several = false;
-  turn = record { under = under.Query; got = n };
+  pending = record { under = under.Awaiting command.Query; got = n };
 }
 
 abbrev pub inPieces : List (List ℕ)
@@ -87,45 +92,47 @@ inPieces = ascii "410C" ∷ ascii "1AF8\r" ∷ ascii "\r>" ∷ ascii "x" ∷ []
 abbrev out : List ℕ
 out = replicate 80 9
 
-abbrev pub client : List Example
-client =
-    example "a query goes out" (lent (queryPidSays 80 new 0x0C 0) out) (startServed (record { answer = start.Sent; written = 5; session = held 0 }) (ascii "010C\r" ++ replicate 75 9)) ∷
-    example "a piece of its reply is stored" (pieceLent (queryPidSays 80 new 0x0C 0 .next) (ascii "41") emptyStore out)
-    (pieceReceived (record { answer = piece.Awaited; written = 0; session = held 2 }) out (ascii "41" ++ replicate 4094 0)) ∷
-    example "as in a delivery, which uses up a piece length" (deliveryLent (delivered 80 (queryPidSays 80 new 0x0C 0 .next) emptyStore (2 ∷ 9 ∷ []) (ascii "41")) out)
-    (deliveryStep (2 ∷ 9 ∷ []) (record { answer = piece.Awaited; written = 0; session = held 2; used = 1 }) (ascii "41" ++ replicate 4094 0) out) ∷
+abbrev pub clientExamples : List Example
+clientExamples =
+    example "a query goes out" (clientLent started out) (clientStep (record { answer = answer.Sent; written = 5; session = held 0 }) (ascii "010C\r" ++ replicate 75 9)) ∷
+    example "a piece of its reply is stored" (clientLent (pieceSays 80 (started .next) (ascii "41") emptyStore) out) (clientStep (record { answer = answer.Awaited; written = 0; session = held 2 }) out) ∷
+    example "after what the store holds of it" (storeAfter (client (held 2)) (result awaited) (ascii "0C") (ascii "41" ++ replicate 4094 0)) (ascii "410C" ++ replicate 4092 0) ∷
+    example "but for the answer to ATZ, and a piece that gets a number" (storeAfter initialising (result sent) (ascii "41") emptyStore ∷ storeAfter (started .next) (refused 3) (ascii "41") emptyStore ∷ [])
+    (emptyStore ∷ emptyStore ∷ []) ∷
+    example "as in a delivery, which uses up a piece length" (deliveryLent (delivered 80 (started .next) emptyStore (2 ∷ 9 ∷ []) (ascii "41")) out)
+    (deliveryStep (2 ∷ 9 ∷ []) (record { answer = answer.Awaited; written = 0; session = held 2; used = 1 }) (ascii "41" ++ replicate 4094 0) out) ∷
     example "a query again, and a `?` for it" (asking .text ∷ again .text ∷ reply (again .next) "?\r\r>" .text ∷ []) (ascii "010C 1\r" ∷ ascii "\r" ∷ ascii "010C 1\r" ∷ []) ∷
-    example "repeat after a `?`, and after another reply" (reply (again .next) "?\r\r>" .next .known .repeat ∷ reply (again .next) "NO DATA\r\r>" .next .known .repeat ∷ []) (support.No ∷ support.Yes ∷ []) ∷
+    example "repeat after a `?`, and after another reply" (reply (again .next) "?\r\r>" .next .server .repeat ∷ reply (again .next) "NO DATA\r\r>" .next .server .repeat ∷ []) (support.No ∷ support.Yes ∷ []) ∷
     example "what these replies come to" (reply (again .next) "?\r\r>" .answer ∷ reply (again .next) "NO DATA\r\r>" .answer ∷ []) (result sent ∷ result complete ∷ []) ∷
-    example "another query goes out in full" (queryPidSays 80 asked 0x0C 3 .text) (ascii "010C 2\r") ∷
+    example "another query goes out in full" (querySays 80 asked (0x0C ∷ []) 3 false .text) (ascii "010C 2\r") ∷
     example "the initialisation" (initSays 80 asked .text ∷ sentAfter 6 initialising) (ascii "ATZ\r" ∷ ascii "ATE0\r" ∷ ascii "ATL0\r" ∷ ascii "ATS0\r" ∷ ascii "ATSP0\r" ∷ ascii "ATH1\r" ∷ [] ∷ []) ∷
     example "with no framing wanted" (sentAfter 5 (initSays 80 (freshClient false true) .next)) (ascii "ATE0\r" ∷ ascii "ATL0\r" ∷ ascii "ATS0\r" ∷ ascii "ATSP0\r" ∷ ascii "ATH0\r" ∷ []) ∷
-    example "its last reply sets framing" (after 5 initialising .known .framing ∷ after 6 initialising .known .framing ∷ []) (false ∷ true ∷ []) ∷
-    example "a failed read while ATZ's answer is awaited" (failureSays 80 initialising (isWrite failure.Read) .text) (ascii "ATE0\r") ∷
-    example "a failed write there" (failureSays 80 initialising (isWrite failure.Write) .answer) (refused 7) ∷
-    example "which keeps the last query" (failureSays 80 initialising (isWrite failure.Write) .next .known .last) (ascii "010C 1") ∷
+    example "its last reply sets framing" (after 5 initialising .server .framing ∷ after 6 initialising .server .framing ∷ []) (false ∷ true ∷ []) ∷
+    example "a failed read while ATZ's answer is awaited" (failureSays 80 initialising failure.Read .text) (ascii "ATE0\r") ∷
+    example "a failed write there" (failureSays 80 initialising failure.Write .answer) (refused 7) ∷
+    example "which keeps the last query" (failureSays 80 initialising failure.Write .next .last) (ascii "010C 1") ∷
     example "raw commands" (map (λ (t : String). commandSays 80 asked (ascii t) .text) ("ath1" ∷ "ATH1\r" ∷ "" ∷ [])) (ascii "ath1\r" ∷ ascii "ATH1\r" ∷ ascii "\r" ∷ []) ∷
-    example "one forgets the last query" (commandSays 80 asked (ascii "ATI") .next .known .last) [] ∷
+    example "one forgets the last query" (commandSays 80 asked (ascii "ATI") .next .last) [] ∷
     example "framing after them, and then after some more" (map (framingAfter new) ("ath1" ∷ "ATH1\r" ∷ "" ∷ []) ++ map (framingAfter (after 6 initialising)) ("ATI" ∷ "ATH0" ∷ "atz" ∷ []))
     (true ∷ false ∷ false ∷ true ∷ false ∷ false ∷ []) ∷
     example "raw commands out of turn, too long, not ASCII, and with little room"
     (commandSays 80 (asking .next) [] .answer ∷ commandSays 80 new (replicate 65 65) .answer ∷ commandSays 80 new (0x80 ∷ []) .answer ∷ commandSays 79 new [] .answer ∷ [])
     (refused 1 ∷ refused 3 ∷ refused 4 ∷ refused 6 ∷ []) ∷
-    example "the numbers of a start" (map startAnswer (start.OutOfTurn ∷ start.PidCount ∷ start.TooLong ∷ start.NotAscii ∷ start.SmallBuffer ∷ [])) (map refused (1 ∷ 2 ∷ 3 ∷ 4 ∷ 6 ∷ [])) ∷
     example "6 bytes after 4,090, and 7" (pieceSays 80 nearlyFull (ascii "41\r\r>\r") fullStore .answer ∷ pieceSays 80 nearlyFull (ascii "410D\r\r>") fullStore .answer ∷ []) (result complete ∷ refused 8 ∷ []) ∷
     example "an empty piece, a byte of 80, a piece of 129 bytes, and little room" (reply (again .next) "" .answer ∷ pieceSays 80 (again .next) (0x80 ∷ 62 ∷ []) emptyStore .answer ∷
     pieceSays 80 (again .next) (replicate 129 65) emptyStore .answer ∷ pieceSays 79 (again .next) (65 ∷ []) emptyStore .answer ∷ []) (refused 7 ∷ refused 9 ∷ refused 3 ∷ refused 6 ∷ []) ∷
-    example "an empty piece forgets the last query" (reply (again .next) "" .next .known .last) [] ∷
-    example "and marks untested multi-PID support No" (reply (queryPidsSays 80 asked (0x0C ∷ 0x0D ∷ []) 0 .next) "" .next .known .multi ∷ reply (again .next) "" .next .known .multi ∷ []) (support.No ∷ support.Unknown ∷ []) ∷
-    example "failures out of turn, with little room, and of a query" (failureSays 80 asked true .answer ∷ failureSays 79 (asking .next) true .answer ∷ failureSays 80 (asking .next) false .answer ∷ [])
+    example "an empty piece forgets the last query" (reply (again .next) "" .next .last) [] ∷
+    example "and marks untested multi-PID support No" (reply (querySays 80 asked (0x0C ∷ 0x0D ∷ []) 0 true .next) "" .next .server .«multi_pid» ∷ reply (again .next) "" .next .server .«multi_pid» ∷ []) (support.No ∷ support.Unknown ∷ []) ∷
+    example "failures out of turn, with little room, and of a query" (failureSays 80 asked failure.Write .answer ∷ failureSays 79 (asking .next) failure.Write .answer ∷ failureSays 80 (asking .next) failure.Read .answer ∷ [])
     (refused 1 ∷ refused 6 ∷ refused 7 ∷ []) ∷
-    example "the numbers of a piece" (map pieceAnswer (piece.OutOfTurn ∷ piece.TooLong ∷ piece.SmallBuffer ∷ piece.Failed ∷ piece.TooMuch ∷ piece.NotAscii ∷ [])) (map refused (1 ∷ 3 ∷ 6 ∷ 7 ∷ 8 ∷ 9 ∷ [])) ∷
-    example "what else a piece says" (map pieceAnswer (piece.Awaited ∷ piece.Sent ∷ piece.Over ∷ piece.Complete ∷ [])) (map result (awaited ∷ sent ∷ over ∷ complete ∷ [])) ∷
+    example "the numbers of the client's calls" (map (λ q. clientAnswer (answer.Refused q)) (OutOfTurn ∷ PidCount ∷ TooLong ∷ NotAscii ∷ SmallBuffer ∷ [])) (map refused (1 ∷ 2 ∷ 3 ∷ 4 ∷ 6 ∷ [])) ∷
+    example "and of the far side" (map (λ q. clientAnswer (answer.Failed q)) (Disconnected ∷ ReplyTooLong ∷ ReplyNotAscii ∷ [])) (map refused (7 ∷ 8 ∷ 9 ∷ [])) ∷
+    example "what else a call says" (map clientAnswer (answer.Sent ∷ answer.Awaited ∷ answer.Over ∷ answer.Complete ∷ answer.Values 2 ∷ [])) (map result (sent ∷ awaited ∷ over ∷ complete ∷ values 2 ∷ [])) ∷
     example "pieces up to the one that completes the reply" (fed 80 (asking .next) emptyStore inPieces .said .answer) (result complete) ∷
     example "the piece that is left" (fed 80 (asking .next) emptyStore inPieces .left) (ascii "x" ∷ []) ∷
     example "the pieces joined" (joined inPieces) (ascii "410C1AF8\r\r>x") ∷
     example "a reply of 300 bytes cut by the lengths 3, 0, 200 and 1" (map (λ (p : List ℕ). length p) (pieces (3 ∷ 0 ∷ 200 ∷ 1 ∷ []) (replicate 300 65))) (3 ∷ 128 ∷ 128 ∷ 1 ∷ 40 ∷ []) ∷
-    example "what is set and learned on the peer" (withMulti (withRepeat (fresh true) support.No) support.Yes)
+    example "what is set and learned on the peer" (withMulti (withRepeat (nothingLearned true) support.No) support.Yes)
     (record { framing = false; repeat = support.No; «multi_pid» = support.Yes; «pid_lengths» = mode01Lengths; «ecu_counts» = replicate 256 0 }) ∷
     example "counts of none, 1 and 255, as a query has them" (map (countIn (0 ∷ 1 ∷ 255 ∷ [])) (0 ∷ 1 ∷ 2 ∷ [])) (0 ∷ 2 ∷ 256 ∷ []) ∷
     []

@@ -7,7 +7,6 @@ use Prim.Native.Nat.{ℕ}
 use Prim.Native.String.{String}
 use lib.ListN.{replicate, set}
 use Rattle.wire.specs.Answer.{result, refused}
-use Rattle.wire.specs.Call.{Said, lent}
 use Rattle.wire.specs.Text.{ascii}
 use Rattle.pid.specs.Lengths.{mode01Lengths, lengthIn}
 use Rattle.line_list.specs.Lines.{line}
@@ -19,11 +18,12 @@ use Rattle.reply_values.specs.Read.{Asked, ReadServed, replyRead, readReply}
 use Rattle.server_state.specs.declared.FeatureSupport.the-variants as support
 use Rattle.server_state.specs.State.{countIn}
 use Rattle.client_session.specs.declared.Under.the-variants as under
-use Rattle.client_session.specs.declared.FinishAnswer.the-variants as finish
+use Rattle.client_session.specs.declared.ClientAnswer.the-variants as answer
 use Rattle.client_session.specs.Session.{Client, withUnder}
-use Rattle.client_session.specs.Start.{commandSays, queryPidSays, queryPidsSays}
-use Rattle.client_session.specs.Piece.{stored}
-use Rattle.client_session.specs.Finish.{finishSays, finishAnswer, finishServed}
+use Rattle.client_session.specs.Start.{commandSays, querySays}
+use Rattle.client_session.specs.Call.{ClientSaid, clientLent, clientAnswer, clientStep}
+use Rattle.client_session.specs.Piece.{storeAfter}
+use Rattle.client_session.specs.Finish.{finishSays}
 use Rattle.cards.specs.Example.{Example, example}
 use Rattle.cards.specs.Client.{emptyStore, new, reply}
 
@@ -32,10 +32,10 @@ abbrev framed : Client
 framed = reply (commandSays 80 new (ascii "ATH1") .next) "OK\r\r>" .next
 
 -- a query that was started gets a reply, and is finished with so much room for its values
-abbrev finishing : ℕ → Said Client (Unit {0}) → String → Said Client ℕ
-finishing room s t = finishSays room (reply (s .next) t .next) (stored (s .next .under) (reply (s .next) t .answer) 0 (ascii t) emptyStore)
+abbrev finishing : ℕ → ClientSaid → String → ClientSaid
+finishing room s t = finishSays room (reply (s .next) t .next) (storeAfter (s .next) (reply (s .next) t .answer) (ascii t) emptyStore)
 
-abbrev answering : Said Client (Unit {0}) → String → Said Client ℕ
+abbrev answering : ClientSaid → String → ClientSaid
 answering s t = finishing 100 s t
 
 -- the maker's own PID E0 from two ECUs, with one length or two
@@ -45,8 +45,8 @@ alike = "7E80541E0010203\r7E90541E0010203\r\r>"
 abbrev unlike : String
 unlike = "7E80441E00102\r7E90541E0010203\r\r>"
 
-abbrev bothEcus : Said Client ℕ
-bothEcus = answering (queryPidSays 80 framed 0xE0 0) alike
+abbrev bothEcus : ClientSaid
+bothEcus = answering (querySays 80 framed (0xE0 ∷ []) 0 false) alike
 
 -- a reply read for `query_pid` of E0, framed, with so much room
 abbrev askedE0 : Asked
@@ -57,39 +57,38 @@ readUnlike room = readReply askedE0 (ascii unlike) (replicate room 9)
 
 -- the count of a PID, as a query has it, after a query of it
 abbrev countAfter : Client → ℕ → String → ℕ
-countAfter c p t = countIn (answering (queryPidSays 80 c p 0) t .next .known .counts) p
+countAfter c p t = countIn (answering (querySays 80 c (p ∷ []) 0 false) t .next .server .«ecu_counts») p
 
 abbrev pub learning : List Example
 learning =
     example "E0 of two ECUs" (bothEcus .text) (0xE0 ∷ 0xE9 ∷ 0x0F ∷ 0x05 ∷ 0x41 ∷ 0xE0 ∷ 1 ∷ 2 ∷ 3 ∷ 0xE0 ∷ 0xEA ∷ 0x0F ∷ 0x05 ∷ 0x41 ∷ 0xE0 ∷ 1 ∷ 2 ∷ 3 ∷ []) ∷
-    example "two values" (bothEcus .answer) (finishAnswer (finish.Values 2)) ∷
-    example "its length is learned" (lengthIn (bothEcus .next .known .lengths) 0xE0) (some 3) ∷
-    example "and its count, 2" (countIn (bothEcus .next .known .counts) 0xE0) 3 ∷
+    example "two values" (bothEcus .answer) (clientAnswer (answer.Values 2)) ∷
+    example "its length is learned" (lengthIn (bothEcus .next .server .«pid_lengths») 0xE0) (some 3) ∷
+    example "and its count, 2" (countIn (bothEcus .next .server .«ecu_counts») 0xE0) 3 ∷
     example "E0 with two lengths: two values, 17 bytes, one queried PID among them" (readUnlike 18 .answer) (result (record { count = 2; written = 17; given = 1 })) ∷
     example "its values" (readUnlike 18 .out) (0xE0 ∷ 0xE9 ∷ 0x0F ∷ 0x04 ∷ 0x41 ∷ 0xE0 ∷ 1 ∷ 2 ∷ 0xE0 ∷ 0xEA ∷ 0x0F ∷ 0x05 ∷ 0x41 ∷ 0xE0 ∷ 1 ∷ 2 ∷ 3 ∷ 9 ∷ []) ∷
-    example "no length is learned" (lengthIn (readUnlike 18 .lengths) 0xE0 ∷ lengthIn (answering (queryPidSays 80 framed 0xE0 0) unlike .next .known .lengths) 0xE0 ∷ []) (none ∷ none ∷ []) ∷
+    example "no length is learned" (lengthIn (readUnlike 18 .lengths) 0xE0 ∷ lengthIn (answering (querySays 80 framed (0xE0 ∷ []) 0 false) unlike .next .server .«pid_lengths») 0xE0 ∷ []) (none ∷ none ∷ []) ∷
     example "with room for 16 bytes nothing is learned or written" (readUnlike 16) (replyRead (record { answer = read.Refused SmallBuffer; lengths = mode01Lengths; counts = replicate 256 0 }) (replicate 16 9)) ∷
     example "which is 6, and 8 for a reply over 4,096 bytes" (readUnlike 16 .answer ∷ readReply askedE0 (replicate 4097 13) [] .answer ∷ []) (refused 6 ∷ refused 8 ∷ []) ∷
-    example "`query_pids` of E0 alone learns no length" (lengthIn (answering (queryPidsSays 80 framed (0xE0 ∷ []) 0) alike .next .known .lengths) 0xE0) none ∷
+    example "`query_pids` of E0 alone learns no length" (lengthIn (answering (querySays 80 framed (0xE0 ∷ []) 0 true) alike .next .server .«pid_lengths») 0xE0) none ∷
     example "a length of 0, and data over 255 bytes" (map (λ (d : List ℕ). lengthIn (learnLength mode01Lengths 0xE0 (line 0 (0x41 ∷ 0xE0 ∷ d) ∷ [])) 0xE0) ([] ∷ replicate 256 0 ∷ [])) (some 0 ∷ none ∷ []) ∷
     example "multi-PID support by 0C for 0C and 0C, for 0C and 0D, and for 0C"
-    (map (λ (pids : List ℕ). answering (queryPidsSays 80 framed pids 0) "7E804410C1AF8\r\r>" .next .known .multi) ((0x0C ∷ 0x0C ∷ []) ∷ (0x0C ∷ 0x0D ∷ []) ∷ (0x0C ∷ []) ∷ []))
+    (map (λ (pids : List ℕ). answering (querySays 80 framed pids 0 true) "7E804410C1AF8\r\r>" .next .server .«multi_pid») ((0x0C ∷ 0x0C ∷ []) ∷ (0x0C ∷ 0x0D ∷ []) ∷ (0x0C ∷ []) ∷ []))
     (support.Yes ∷ support.No ∷ support.No ∷ []) ∷
     example "counts: two lines unframed, of one ECU, of two, and card 4's of an unknown one"
     (countAfter new 0x0C "410C1AF8\r410C1AF8\r\r>" ∷ countAfter framed 0x0C "7E804410C1AF8\r7E804410C1AF8\r\r>" ∷ countAfter framed 0x0C "7E804410C1AF8\r7E904410C1AF8\r\r>" ∷ countAfter framed 0x31 "A12\r\r>" ∷ [])
     (3 ∷ 2 ∷ 3 ∷ 0 ∷ []) ∷
-    example "a count is learned once" (countAfter (answering (queryPidSays 80 framed 0x0C 0) "7E804410C1AF8\r\r>" .next) 0x0C "7E804410C1AF8\r7E904410C1AF8\r\r>") 2 ∷
+    example "a count is learned once" (countAfter (answering (querySays 80 framed (0x0C ∷ []) 0 false) "7E804410C1AF8\r\r>" .next) 0x0C "7E804410C1AF8\r7E904410C1AF8\r\r>") 2 ∷
     example "256 occurrences" (ecusGiving false (replicate 256 (value 0x0C 0 []))) 255 ∷
-    example "a known length is clamped to the line" (answering (queryPidSays 80 new 0x0C 0) "410C1A\r\r>" .text) (0x0C ∷ 0x00 ∷ 0x03 ∷ 0x41 ∷ 0x0C ∷ 0x1A ∷ []) ∷
-    example "lines that do not start with 41, or have one byte" (answering (queryPidSays 80 new 0x0C 0) "7F0112\r41\r\r>" .text) [] ∷
+    example "a known length is clamped to the line" (answering (querySays 80 new (0x0C ∷ []) 0 false) "410C1A\r\r>" .text) (0x0C ∷ 0x00 ∷ 0x03 ∷ 0x41 ∷ 0x0C ∷ 0x1A ∷ []) ∷
+    example "lines that do not start with 41, or have one byte" (answering (querySays 80 new (0x0C ∷ []) 0 false) "7F0112\r41\r\r>" .text) [] ∷
     example "a finish out of turn, with room for 17 bytes, and of a store that is short or holds a byte of 80"
-    (finishSays 100 new emptyStore .answer ∷ finishing 17 (queryPidSays 80 framed 0xE0 0) alike .answer ∷ finishSays 100 (withUnder new under.Complete 1) (replicate 4095 0) .answer ∷
+    (finishSays 100 new emptyStore .answer ∷ finishing 17 (querySays 80 framed (0xE0 ∷ []) 0 false) alike .answer ∷ finishSays 100 (withUnder new under.Complete 1) (replicate 4095 0) .answer ∷
     finishSays 100 (withUnder new under.Complete 1) (0x80 ∷ emptyStore) .answer ∷ [])
     (refused 1 ∷ refused 6 ∷ refused 6 ∷ refused 9 ∷ []) ∷
-    example "the numbers of a finish" (map finishAnswer (finish.OutOfTurn ∷ finish.SmallBuffer ∷ finish.NotAscii ∷ [])) (map refused (1 ∷ 6 ∷ 9 ∷ [])) ∷
-    example "a query finished" (lent (answering (queryPidSays 80 new 0x0C 0) "410C1AF8\r\r>") (replicate 9 9))
-    (finishServed (record {
-      answer = finish.Values 1;
+    example "a query finished" (clientLent (answering (querySays 80 new (0x0C ∷ []) 0 false) "410C1AF8\r\r>") (replicate 9 9))
+    (clientStep (record {
+      answer = answer.Values 1;
       written = 7;
       session = record {
         «want_framing» = true;
@@ -99,7 +98,7 @@ learning =
         pids = 0x0C ∷ replicate 5 0;
         «pids_len» = 1;
         several = false;
-        turn = record { under = under.Nothing; got = 0 };
+        pending = record { under = under.Idle; got = 0 };
       };
     }) (0x0C ∷ 0x00 ∷ 0x04 ∷ 0x41 ∷ 0x0C ∷ 0x1A ∷ 0xF8 ∷ 9 ∷ 9 ∷ [])) ∷
     []

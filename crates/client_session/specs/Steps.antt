@@ -1,75 +1,46 @@
 -- What the private steps of the code do. No public contract cites these.
 use mathlib.Core.Path.{_≡_}
-use mathlib.Core.Bool.{true, cond}
-use mathlib.Core.List.{List, _++_}
-use Prim.Native.Nat.{ℕ, _+_, _≤_}
-use lib.Dec.{eqb, ltb}
-use lib.ListN.{length, take}
-use Rattle.wire.specs.Answer.{Answer, result, refused}
-use Rattle.wire.specs.Call.{Said, Served}
+use mathlib.Core.List.{List}
+use Prim.Native.Nat.{ℕ, _≤_}
+use lib.ListN.{length}
+use Rattle.wire.specs.declared.Refusal.{Refusal}
+use Rattle.wire.specs.declared.Verdict.{Verdict}
+use Rattle.wire.specs.declared.Verdict.the-variants.{Accepted, Refused}
+use Rattle.wire.specs.Answer.{number}
 use Rattle.wire.specs.Put.{Put}
-use Rattle.wire.specs.Text.{high}
-use Rattle.client_session.specs.declared.Under.{Under}
 use Rattle.client_session.specs.declared.ClientSession.{ClientSession}
-use Rattle.client_session.specs.declared.StartAnswer.{StartAnswer}
-use Rattle.client_session.specs.declared.StartAnswer.the-variants as start
-use Rattle.client_session.specs.declared.StartStep.{StartStep}
-use Rattle.client_session.specs.declared.PieceAnswer.{PieceAnswer}
-use Rattle.client_session.specs.declared.PieceStep.{PieceStep}
+use Rattle.client_session.specs.declared.ClientAnswer.{ClientAnswer}
+use Rattle.client_session.specs.declared.ClientAnswer.the-variants as answer
+use Rattle.client_session.specs.declared.ClientStep.{ClientStep}
 use Rattle.client_session.specs.Session.{Client, client}
-use Rattle.client_session.specs.Piece.{Progress, failing, isAwaited, appended, pieceServed}
-use Rattle.client_session.specs.Finish.{finishReply}
+use Rattle.client_session.specs.Call.{ClientSaid, ClientServed}
 
 -- A call does what is said, and writes from the front of the out buffer on as far as it reaches.
-pub record Does {A : Type 0} (d : Said Client A) (out : List ℕ) (s : Served Client A) : Type 0 where
+pub record Does (d : ClientSaid) (out : List ℕ) (s : ClientServed) : Type 0 where
   pub answer : s .answer ≡ d .answer
   pub next : s .next ≡ d .next
   pub text : Put out 0 (d .text) (s .written) (s .out)
 
--- A start sends so many bytes, and leaves this session.
-pub record Starts (c : Client) (n : ℕ) (r : StartStep) : Type 0 where
-  pub answer : r .answer ≡ start.Sent
-  pub written : r .written ≡ n
-  pub next : client (r .session) ≡ c
-
--- A piece or failure gives an answer, sends so many bytes, and leaves this session.
-pub record Ends (c : Client) (a : PieceAnswer) (n : ℕ) (r : PieceStep) : Type 0 where
+-- A call gives an answer, sends so many bytes, and leaves this session.
+pub record Ends (c : Client) (a : ClientAnswer) (n : ℕ) (r : ClientStep) : Type 0 where
   pub answer : r .answer ≡ a
   pub written : r .written ≡ n
   pub next : client (r .session) ≡ c
 
+-- a call that is refused, and leaves the session
+abbrev pub unchanged : ClientSession → Refusal → ClientStep
+unchanged s q = record { answer = answer.Refused q; written = 0; session = s }
+
+-- a verdict has one of the caller's numbers, and one of the far side's, if any
+abbrev pub Early : Verdict → Type 0
+Early Accepted = Unit {0}
+Early (Refused q) = number q ≤ 6
+
+abbrev pub Late : Verdict → Type 0
+Late Accepted = Unit {0}
+Late (Refused q) = 7 ≤ number q
+
 -- A piece of a reply that gets none of the caller's numbers.
-pub record Joining (c : Client) (piece store : List ℕ) : Type 0 where
-  pub turn : isAwaited (c .under) ≡ true
+pub record Joining (piece store : List ℕ) : Type 0 where
   pub short : length piece ≤ 128
   pub room : 4096 ≤ length store
-
--- It does what is said, and is appended to the store where it is accepted.
-pub record Receives (d : Said Client Progress) (got : ℕ) (piece store out : List ℕ) (r : PieceStep) (out₁ store₁ : List ℕ) : Type 0 where
-  pub does : Does d out (pieceServed r out₁)
-  pub kept : store₁ ≡ appended (d .answer) got piece store
-
--- the answer that a number alone gives: with none it is the result
-abbrev pub byNumber : {A : Type 0} → A → ℕ → Answer A
-byNumber a n = cond (eqb n 0) (result a) (refused n)
-
--- the number of an awaited piece before its bytes are looked at
-abbrev pub pieceNumber : ℕ → List ℕ → ℕ → ℕ → ℕ
-pieceNumber limit piece room store = cond (ltb limit (length piece)) 3 (cond (ltb room 80) 6 (cond (ltb store 4096) 6 0))
-
--- the number of a piece or failure: 1 out of turn
-abbrev pub turnNumber : Under → ℕ → ℕ
-turnNumber u n = cond (isAwaited u) n 1
-
--- the number that a piece gets by its bytes, where the store holds so many of the reply
-abbrev pub replyNumber : ℕ → List ℕ → List ℕ → ℕ
-replyNumber got piece store =
-    cond (eqb (length piece) 0) 7 (cond (ltb 4096 (got + length piece)) 8 (cond (high (take got (take 4096 store) ++ piece)) 9 0))
-
--- a finish of the reply that the store holds
-abbrev pub finishStored : ℕ → Client → List ℕ → Said Client ℕ
-finishStored room c reply = cond (high reply) (failing 9 c) (finishReply room c reply)
-
--- nothing is sent, and the session stays
-abbrev pub unstarted : ClientSession → StartAnswer → StartStep
-unstarted s a = record { answer = a; written = 0; session = s }

@@ -7,29 +7,37 @@ use client_command::FramingEffect;
 use query_text::QueryText;
 use server_state::FeatureSupport;
 use server_state::ServerState;
+use wire::Refusal;
 ghost use mathlib.Core.Path.{_≡_};
+ghost use mathlib.Core.Bool.{_&&_};
 ghost use mathlib.Core.List.{[]};
-ghost use Rattle.client_session.specs.Session.{client, freshClient, withUnder, withKnown, withLast};
-ghost use Rattle.client_session.specs.Piece.{isSeveral, failedClient};
+ghost use Rattle.client_session.specs.Session.{client, freshClient, isIdle, isComplete, withUnder, withLastQuery};
+ghost use Rattle.client_session.specs.Call.{isQuery, inQuery, failedClient};
+ghost use Rattle.client_session.specs.Steps.{Ends, unchanged};
+
+// A command whose reply is awaited.
+pub enum Command {
+    // ATZ of the initialisation.
+    Reset,
+    // A later command of the initialisation: 0 for ATE0, then ATL0, ATS0, ATSP0, and 4 or more for ATH1 or ATH0.
+    Setup(u8),
+    Raw(FramingEffect),
+    // A query in full.
+    Query,
+    // A query that was repeated by a bare CR.
+    Repeat,
+}
 
 // What is under way.
 pub enum Under {
-    Nothing,
-    // The answer to ATZ of the initialisation is awaited.
-    Reset,
-    // The reply to a later command of the initialisation: 0 for ATE0, then ATL0, ATS0, ATSP0, and 4 or more for ATH1 or ATH0.
-    Setup(u8),
-    Raw(FramingEffect),
-    // The reply to a query in full.
-    Query,
-    // The reply to a query that was repeated by a bare CR.
-    Repeat,
+    Idle,
+    Awaiting(Command),
     // A query's reply is complete, and is finished next.
     Complete,
 }
 
 // What is under way, and how many bytes of its reply the store holds.
-pub struct Turn {
+pub struct Pending {
     pub under: Under,
     pub got: usize,
 }
@@ -46,78 +54,30 @@ pub struct ClientSession {
     pub pids: [u8; 6],
     pub pids_len: usize,
     pub several: bool,
-    pub turn: Turn,
+    pub pending: Pending,
 }
 
-// What a start says.
-pub enum StartAnswer {
-    // The command is to be sent, and its reply is awaited.
+// What a call says.
+pub enum ClientAnswer {
+    // A command is to be sent, and its reply is awaited.
     Sent,
-    // 1: something is under way.
-    OutOfTurn,
-    // 2: no PID or more than six.
-    PidCount,
-    // 3: a raw command over 64 bytes.
-    TooLong,
-    // 4: a raw command with a byte of 80 or more.
-    NotAscii,
-    // 6: out has less than 80 bytes.
-    SmallBuffer,
-}
-
-pub struct StartStep {
-    pub answer: StartAnswer,
-    // How many bytes of out are to be sent.
-    pub written: usize,
-    pub session: ClientSession,
-}
-
-// What a piece or a failure says.
-pub enum PieceAnswer {
     // More of the reply is awaited.
     Awaited,
-    // The reply is complete, and a further command is to be sent, whose reply is awaited.
-    Sent,
     // The initialisation or the raw command is over.
     Over,
     // A query's reply is complete, and is finished next.
     Complete,
-    // 1: no reply is awaited.
-    OutOfTurn,
-    // 3: the piece has over 128 bytes, or 256 while the answer to ATZ is awaited.
-    TooLong,
-    // 6: out has less than 80 bytes, or the store less than 4,096.
-    SmallBuffer,
-    // 7: a read or a write failed, or the connection is closed.
-    Failed,
-    // 8: the reply has over 4,096 bytes.
-    TooMuch,
-    // 9: the reply holds a byte of 80 or more.
-    NotAscii,
-}
-
-pub struct PieceStep {
-    pub answer: PieceAnswer,
-    // How many bytes of out are to be sent.
-    pub written: usize,
-    pub session: ClientSession,
-}
-
-// What a finish says.
-pub enum FinishAnswer {
-    // So many values stand in out.
+    // The query is finished, and so many values stand in out.
     Values(usize),
-    // 1: no query's reply is complete.
-    OutOfTurn,
-    // 6: the store has less than 4,096 bytes, or the values are longer than out.
-    SmallBuffer,
-    // 9: the reply holds a byte of 80 or more.
-    NotAscii,
+    // 1 to 6: the call was not right, and the session is as it was.
+    Refused(Refusal),
+    // 7 to 9: what was under way has ended.
+    Failed(Refusal),
 }
 
-pub struct FinishStep {
-    pub answer: FinishAnswer,
-    // How many bytes of out the values take.
+pub struct ClientStep {
+    pub answer: ClientAnswer,
+    // How many bytes of out are to be sent, or are values.
     pub written: usize,
     pub session: ClientSession,
 }
@@ -128,16 +88,57 @@ pub enum Failure {
     Write,
 }
 
-// Whether a query of `query_pids` is under way.
-fn is_several(under: Under, several: bool) -> bool
-    ensures { λ r. ⌜ r ≡ isSeveral under several ⌝ }
+fn is_idle(under: Under) -> bool
+    ensures { λ r. ⌜ r ≡ isIdle under ⌝ }
 {
     match under {
-        Under::Query => several,
-        Under::Repeat => several,
-        Under::Complete => several,
-        _ => false,
+        Under::Idle => true,
+        Under::Awaiting(_) => false,
+        Under::Complete => false,
     }
+}
+
+fn is_complete(under: Under) -> bool
+    ensures { λ r. ⌜ r ≡ isComplete under ⌝ }
+{
+    match under {
+        Under::Idle => false,
+        Under::Awaiting(_) => false,
+        Under::Complete => true,
+    }
+}
+
+fn is_query(command: Command) -> bool
+    ensures { λ r. ⌜ r ≡ isQuery command ⌝ }
+{
+    match command {
+        Command::Reset => false,
+        Command::Setup(_) => false,
+        Command::Raw(_) => false,
+        Command::Query => true,
+        Command::Repeat => true,
+    }
+}
+
+// Whether a query's reply is awaited, or complete.
+fn in_query(under: Under) -> bool
+    ensures { λ r. ⌜ r ≡ inQuery under ⌝ }
+{
+    match under {
+        Under::Idle => false,
+        Under::Awaiting(command) => is_query(command),
+        Under::Complete => true,
+    }
+}
+
+// Whether a query of `query_pids` is under way.
+fn in_several(under: Under, several: bool) -> bool
+    ensures { λ r. ⌜ r ≡ (inQuery under && several) ⌝ }
+{
+    if in_query(under) {
+        return several;
+    }
+    false
 }
 
 impl ClientSession {
@@ -153,8 +154,8 @@ impl ClientSession {
             pids: [0; 6],
             pids_len: 0,
             several: false,
-            turn: Turn {
-                under: Under::Nothing,
+            pending: Pending {
+                under: Under::Idle,
                 got: 0,
             },
         }
@@ -163,32 +164,72 @@ impl ClientSession {
     fn moved(mut self, under: Under, got: usize) -> ClientSession
         ensures { λ r. ⌜ client r ≡ withUnder (client self) under got ⌝ }
     {
-        let turn = Turn { under, got };
-        self.turn = turn;
+        let pending = Pending { under, got };
+        self.pending = pending;
         self
     }
 
-    // The command under way is over, and the last query is forgotten.
+    // So many bytes of out are to be sent, with this or nothing under way.
+    fn ends(self, answer: ClientAnswer, written: usize, under: Under, got: usize) -> ClientStep
+        ensures { λ r. ⌜ Ends (withUnder (client self) under got) answer written r ⌝ }
+    {
+        ClientStep {
+            answer,
+            written,
+            session: self.moved(under, got),
+        }
+    }
+
+    // So many bytes of out are this command, whose reply is awaited.
+    fn sends(self, command: Command, written: usize) -> ClientStep
+        ensures { λ r. ⌜ Ends (withUnder (client self) (Under.Awaiting command) 0) ClientAnswer.Sent written r ⌝ }
+    {
+        self.ends(ClientAnswer::Sent, written, Under::Awaiting(command), 0)
+    }
+
+    // 1 to 6 change nothing.
+    fn refused(self, refusal: Refusal) -> ClientStep
+        ensures { λ r. ⌜ r ≡ unchanged self refusal ⌝ }
+    {
+        ClientStep {
+            answer: ClientAnswer::Refused(refusal),
+            written: 0,
+            session: self,
+        }
+    }
+
+    // What is under way has ended, and the last query is forgotten.
     fn forgets(mut self) -> ClientSession
-        ensures { λ r. ⌜ client r ≡ withUnder (withKnown (client self) (withLast (client self .known) [])) Under.Nothing 0 ⌝ }
+        ensures { λ r. ⌜ client r ≡ withUnder (withLastQuery (client self) []) Under.Idle 0 ⌝ }
     {
         self.last.len = 0;
-        self.moved(Under::Nothing, 0)
+        self.moved(Under::Idle, 0)
     }
 
     // The session after 7, 8 or 9.
     fn failed(mut self) -> ClientSession
         ensures { λ r. ⌜ client r ≡ failedClient (client self) ⌝ }
     {
-        let turn = self.turn;
-        let under = turn.under;
-        if is_several(under, self.several) {
+        let pending = self.pending;
+        let under = pending.under;
+        if in_several(under, self.several) {
             let server = self.server;
             let multi_pid = server.multi_pid;
-            let decided = server.with_multi_pid(multi_pid.decide(FeatureSupport::No));
-            self.server = decided;
+            let marked = server.with_multi_pid(multi_pid.decide(FeatureSupport::No));
+            self.server = marked;
             return self.forgets();
         }
         self.forgets()
+    }
+
+    // 7, 8 and 9 end what is under way.
+    fn fails(self, refusal: Refusal) -> ClientStep
+        ensures { λ r. ⌜ Ends (failedClient (client self)) (ClientAnswer.Failed refusal) 0 r ⌝ }
+    {
+        ClientStep {
+            answer: ClientAnswer::Failed(refusal),
+            written: 0,
+            session: self.failed(),
+        }
     }
 }

@@ -1,65 +1,81 @@
 // A command is started: the initialisation, a raw command or a query.
 use crate::ClientSession;
-use crate::StartAnswer;
-use crate::StartStep;
+use crate::ClientStep;
+use crate::Command;
 use crate::Under;
 use query::EcuCount;
 use query_text::QueryText;
 use server_state::FeatureSupport;
+use wire::Refusal;
+use wire::Verdict;
 ghost use mathlib.Core.Path.{_≡_};
-ghost use mathlib.Core.Bool.{_&&_};
-ghost use Prim.Native.Nat.{_≤_};
+ghost use mathlib.Core.Bool.{Bool, false, true, _&&_};
+ghost use mathlib.Core.List.{[], _∷_};
+ghost use Prim.Native.Nat.{ℕ, _≤_};
 ghost use lib.ListN.{length};
-ghost use Rattle.wire.specs.Call.{lent};
-ghost use Rattle.wire.specs.Text.{same};
+ghost use Rattle.wire.specs.Steps.{settled};
+ghost use Rattle.wire.specs.Text.{ascii, same};
 ghost use Rattle.query.specs.Query.{countOf};
 ghost use Rattle.query_text.specs.Text.{text};
 ghost use Rattle.server_state.specs.State.{mayTry};
-ghost use Rattle.client_session.specs.Session.{Client, client, withUnder, withQuery};
-ghost use Rattle.client_session.specs.Start.{startNumber, rawNumber, newQuery, pidsNumber, queryStarted, initSays, commandSays, queryPidSays, queryPidsSays, startAnswer, startServed};
-ghost use Rattle.client_session.specs.Steps.{Does, Starts, byNumber, unstarted};
+ghost use Rattle.client_session.specs.Session.{Client, client, withQuery};
+ghost use Rattle.client_session.specs.Call.{sends, clientRefusing, clientLent, clientStep, RefusedOrFailed};
+ghost use Rattle.client_session.specs.Start.{initSays, sendRaw, commandSays, sendQuery, request, querySays};
+ghost use Rattle.client_session.specs.Steps.{Does, Early};
 
-// The answer to a start that has no number of its own.
-fn start_answer(under: Under, room: usize) -> StartAnswer
-    ensures { λ r. ⌜ ((c : Client) → c .under ≡ under → startAnswer r ≡ byNumber tt (startNumber c 0 room)) ⌝ }
+// Whether the initialisation is refused.
+fn init_verdict(under: Under, room: usize) -> Verdict
+    ensures { λ r. ⌜ ((c : Client) → c .under ≡ under → initSays room c ≡ settled r (clientRefusing c) (sends c Command.Reset (ascii "ATZ\r"))) ⌝ }
+    ensures { λ r. ⌜ Early r ⌝ }
 {
-    if let Under::Nothing = under {
-        if room < 80 {
-            return StartAnswer::SmallBuffer;
-        }
-        return StartAnswer::Sent;
+    if !crate::is_idle(under) {
+        return Verdict::Refused(Refusal::OutOfTurn);
     }
-    StartAnswer::OutOfTurn
+    if room < 80 {
+        return Verdict::Refused(Refusal::SmallBuffer);
+    }
+    Verdict::Accepted
 }
 
-fn raw_answer(under: Under, command: &[u8], room: usize) -> StartAnswer
-    ensures { λ r. ⌜ ((c : Client) → c .under ≡ under → startAnswer r ≡ byNumber tt (startNumber c (rawNumber (now (command .entry))) room)) ⌝ }
+// Whether a raw command is refused.
+fn command_verdict(under: Under, command: &[u8], room: usize) -> Verdict
+    ensures { λ r. ⌜ ((c : Client) → c .under ≡ under → commandSays room c (now (command .entry)) ≡ settled r (clientRefusing c) (sendRaw c (now (command .entry)))) ⌝ }
+    ensures { λ r. ⌜ Early r ⌝ }
 {
-    if let Under::Nothing = under {
-        if 64 < command.len() {
-            return StartAnswer::TooLong;
-        }
-        if wire::has_high(command) {
-            return StartAnswer::NotAscii;
-        }
-        return start_answer(under, room);
+    if !crate::is_idle(under) {
+        return Verdict::Refused(Refusal::OutOfTurn);
     }
-    StartAnswer::OutOfTurn
+    if 64 < command.len() {
+        return Verdict::Refused(Refusal::TooLong);
+    }
+    if wire::has_high(command) {
+        return Verdict::Refused(Refusal::NotAscii);
+    }
+    if room < 80 {
+        return Verdict::Refused(Refusal::SmallBuffer);
+    }
+    Verdict::Accepted
 }
 
-fn query_answer(under: Under, pids: &[u8], room: usize) -> StartAnswer
-    ensures { λ r. ⌜ ((c : Client) → c .under ≡ under → startAnswer r ≡ byNumber tt (startNumber c (pidsNumber (now (pids .entry))) room)) ⌝ }
+// Whether a query is refused.
+fn query_verdict(under: Under, pids: &[u8], room: usize) -> Verdict
+    ensures { λ r. ⌜ ((c : Client) → (count : ℕ) → (several : Bool) → c .under ≡ under → querySays room c (now (pids .entry)) count several ≡ settled r (clientRefusing c) (sendQuery c (request (now (pids .entry)) count several))) ⌝ }
+    ensures { λ r. ⌜ Early r ⌝ }
+    ensures { λ r. ⌜ (r ≡ Verdict.Accepted → length (now (pids .entry)) ≤ 6) ⌝ }
 {
-    if let Under::Nothing = under {
-        if pids.len() == 0 {
-            return StartAnswer::PidCount;
-        }
-        if 6 < pids.len() {
-            return StartAnswer::PidCount;
-        }
-        return start_answer(under, room);
+    if !crate::is_idle(under) {
+        return Verdict::Refused(Refusal::OutOfTurn);
     }
-    StartAnswer::OutOfTurn
+    if pids.len() == 0 {
+        return Verdict::Refused(Refusal::PidCount);
+    }
+    if 6 < pids.len() {
+        return Verdict::Refused(Refusal::PidCount);
+    }
+    if room < 80 {
+        return Verdict::Refused(Refusal::SmallBuffer);
+    }
+    Verdict::Accepted
 }
 
 // Whether a query equals the last one, which a bare CR may repeat.
@@ -73,62 +89,42 @@ fn repeats(repeat: FeatureSupport, last: QueryText, query: QueryText) -> bool
 }
 
 impl ClientSession {
-    // A start that is refused changes nothing.
-    fn unstarted(self, answer: StartAnswer) -> StartStep
-        ensures { λ r. ⌜ r ≡ unstarted self answer ⌝ }
-    {
-        StartStep {
-            answer,
-            written: 0,
-            session: self,
-        }
-    }
-
-    // So many bytes of out are to be sent, and the reply to them is awaited.
-    fn starts(self, under: Under, written: usize) -> StartStep
-        ensures { λ r. ⌜ Starts (withUnder (client self) under 0) written r ⌝ }
-    {
-        StartStep {
-            answer: StartAnswer::Sent,
-            written,
-            session: self.moved(under, 0),
-        }
-    }
-
     // Starts the initialisation: ATZ goes out. It is no raw command, and forgets nothing.
-    pub fn init(self, out: &mut [u8]) -> StartStep
-        ensures { λ r. ⌜ startServed r (now (out .exit)) ≡ lent (initSays (length (now (out .entry))) (client self)) (now (out .entry)) ⌝ }
+    pub fn init(self, out: &mut [u8]) -> ClientStep
+        ensures { λ r. ⌜ clientStep r (now (out .exit)) ≡ clientLent (initSays (length (now (out .entry))) (client self)) (now (out .entry)) ⌝ }
+        ensures { λ r. ⌜ RefusedOrFailed r self ⌝ }
     {
-        let turn = self.turn;
-        let under = turn.under;
-        let answer = start_answer(under, out.len());
-        if let StartAnswer::Sent = answer {
-            let written = wire::put(out, 0, b"ATZ\r");
-            return self.starts(Under::Reset, written);
+        let pending = self.pending;
+        let under = pending.under;
+        let verdict = init_verdict(under, out.len());
+        if let Verdict::Refused(refusal) = verdict {
+            return self.refused(refusal);
         }
-        self.unstarted(answer)
+        let written = wire::put(out, 0, b"ATZ\r");
+        self.sends(Command::Reset, written)
     }
 
     // Starts a raw command. The last query is forgotten, since a bare CR would now repeat this command.
-    pub fn command(mut self, command: &[u8], out: &mut [u8]) -> StartStep
-        ensures { λ r. ⌜ startServed r (now (out .exit)) ≡ lent (commandSays (length (now (out .entry))) (client self) (now (command .entry))) (now (out .entry)) ⌝ }
+    pub fn command(mut self, command: &[u8], out: &mut [u8]) -> ClientStep
+        ensures { λ r. ⌜ clientStep r (now (out .exit)) ≡ clientLent (commandSays (length (now (out .entry))) (client self) (now (command .entry))) (now (out .entry)) ⌝ }
+        ensures { λ r. ⌜ RefusedOrFailed r self ⌝ }
     {
-        let turn = self.turn;
-        let under = turn.under;
-        let answer = raw_answer(under, command, out.len());
-        if let StartAnswer::Sent = answer {
-            self.last.len = 0;
-            let written = client_command::put_command(out, 0, command);
-            let effect = client_command::framing_effect(command);
-            return self.starts(Under::Raw(effect), written);
+        let pending = self.pending;
+        let under = pending.under;
+        let verdict = command_verdict(under, command, out.len());
+        if let Verdict::Refused(refusal) = verdict {
+            return self.refused(refusal);
         }
-        self.unstarted(answer)
+        self.last.len = 0;
+        let written = client_command::put_command(out, 0, command);
+        let effect = client_command::framing_effect(command);
+        self.sends(Command::Raw(effect), written)
     }
 
     // The session with a query of at most six PIDs, to be sent.
     fn with_query(mut self, pids: &[u8], count: EcuCount, several: bool) -> ClientSession
         requires { ⌜ length (now pids) ≤ 6 ⌝ }
-        ensures { λ r. ⌜ client r ≡ withQuery (client self) (newQuery (now (pids .entry)) (countOf count) several) ⌝ }
+        ensures { λ r. ⌜ client r ≡ withQuery (client self) (request (now (pids .entry)) (countOf count) several) ⌝ }
     {
         self.query = QueryText::of(pids, count);
         let mut own = [0u8; 6];
@@ -139,44 +135,47 @@ impl ClientSession {
     }
 
     // The query goes out, in full or as a bare CR.
-    fn ask(self, out: &mut [u8]) -> StartStep
-        ensures { λ r. ⌜ Does (queryStarted 0 (client self) (client self .query)) (now (out .entry)) (startServed r (now (out .exit))) ⌝ }
+    fn ask(self, out: &mut [u8]) -> ClientStep
+        ensures { λ r. ⌜ Does (sendQuery (client self) (client self .query)) (now (out .entry)) (clientStep r (now (out .exit))) ⌝ }
     {
         let server = self.server;
         let repeat = server.repeat;
         let query = self.query;
         if repeats(repeat, self.last, query) {
             let written = wire::put_byte(out, 0, b'\r');
-            return self.starts(Under::Repeat, written);
+            return self.sends(Command::Repeat, written);
         }
         let written = query.put_line(out, 0);
-        self.starts(Under::Query, written)
+        self.sends(Command::Query, written)
     }
 
     // Starts a query.
-    fn start_query(self, pids: &[u8], count: EcuCount, several: bool, out: &mut [u8]) -> StartStep
-        ensures { λ r. ⌜ startServed r (now (out .exit)) ≡ lent (queryStarted (startNumber (client self) (pidsNumber (now (pids .entry))) (length (now (out .entry)))) (client self) (newQuery (now (pids .entry)) (countOf count) several)) (now (out .entry)) ⌝ }
+    fn start_query(self, pids: &[u8], count: EcuCount, several: bool, out: &mut [u8]) -> ClientStep
+        ensures { λ r. ⌜ clientStep r (now (out .exit)) ≡ clientLent (querySays (length (now (out .entry))) (client self) (now (pids .entry)) (countOf count) several) (now (out .entry)) ⌝ }
+        ensures { λ r. ⌜ RefusedOrFailed r self ⌝ }
     {
-        let turn = self.turn;
-        let under = turn.under;
-        let answer = query_answer(under, pids, out.len());
-        if let StartAnswer::Sent = answer {
-            return self.with_query(pids, count, several).ask(out);
+        let pending = self.pending;
+        let under = pending.under;
+        let verdict = query_verdict(under, pids, out.len());
+        if let Verdict::Refused(refusal) = verdict {
+            return self.refused(refusal);
         }
-        self.unstarted(answer)
+        self.with_query(pids, count, several).ask(out)
     }
 
     // Starts a query of one PID, with the number of ECUs that it waits for.
-    pub fn query_pid(self, pid: u8, count: EcuCount, out: &mut [u8]) -> StartStep
-        ensures { λ r. ⌜ startServed r (now (out .exit)) ≡ lent (queryPidSays (length (now (out .entry))) (client self) pid (countOf count)) (now (out .entry)) ⌝ }
+    pub fn query_pid(self, pid: u8, count: EcuCount, out: &mut [u8]) -> ClientStep
+        ensures { λ r. ⌜ clientStep r (now (out .exit)) ≡ clientLent (querySays (length (now (out .entry))) (client self) (pid ∷ []) (countOf count) false) (now (out .entry)) ⌝ }
+        ensures { λ r. ⌜ RefusedOrFailed r self ⌝ }
     {
         let pids = [pid];
         self.start_query(&pids, count, false, out)
     }
 
     // Starts a query of one to six PIDs. The first such query decides multi-PID support.
-    pub fn query_pids(self, pids: &[u8], count: EcuCount, out: &mut [u8]) -> StartStep
-        ensures { λ r. ⌜ startServed r (now (out .exit)) ≡ lent (queryPidsSays (length (now (out .entry))) (client self) (now (pids .entry)) (countOf count)) (now (out .entry)) ⌝ }
+    pub fn query_pids(self, pids: &[u8], count: EcuCount, out: &mut [u8]) -> ClientStep
+        ensures { λ r. ⌜ clientStep r (now (out .exit)) ≡ clientLent (querySays (length (now (out .entry))) (client self) (now (pids .entry)) (countOf count) true) (now (out .entry)) ⌝ }
+        ensures { λ r. ⌜ RefusedOrFailed r self ⌝ }
     {
         self.start_query(pids, count, true, out)
     }

@@ -23,7 +23,7 @@ use Rattle.reply_lines.specs.Lines.{textLines}
 use Rattle.reply_lines.specs.Decode.{textLine, replyLines}
 use Rattle.reply_values.specs.Values.{walked, answerOrder}
 use Rattle.client_session.specs.Session.{freshClient}
-use Rattle.client_session.specs.Start.{queryPidsSays}
+use Rattle.client_session.specs.Start.{querySays}
 use Rattle.client_session.specs.Piece.{replyTakes, pieceSays}
 use Rattle.client_session.specs.Finish.{finishSays}
 use Rattle.driver_log.specs.Log.{loggedOf, loggedAs}
@@ -62,5 +62,5 @@ clientLog =
 
 client-log : storedOf (clientRun clientCalls (clientAt (freshClient true true) 0 (replicate 4096 0) (replicate 80 9) (replicate 60 9))) ≡
     storedAs 59 (speeds ++ replicate 4081 0) (values ++ replicate 67 9) (clientLog ++ (9 ∷ []))
-unfolding has high isSpace hexDigit digit leading j1979 mode01Lengths groupBytes valueFormat queryText textLines textLine replyLines walked answerOrder queryPidsSays replyTakes pieceSays finishSays calls
+unfolding has high isSpace hexDigit digit leading j1979 mode01Lengths groupBytes valueFormat queryText textLines textLine replyLines walked answerOrder querySays replyTakes pieceSays finishSays calls
 client-log = refl

@@ -4,7 +4,7 @@ use mathlib.Core.List.{List}
 use Prim.Native.Nat.{ℕ}
 use lib.ListN.{length}
 use Rattle.wire.specs.Answer.{Answer, result, refused}
-use Rattle.bench.specs.Run.{Recorded, runSays, lent}
+use Rattle.bench.specs.Run.{Recorded, runSays, runLent}
 use Rattle.driver_log.specs.Log.{Turn, answered, Logged, loggedOf}
 
 -- a number of document 01 as itself, and a run through all queries as 64
@@ -17,4 +17,4 @@ abbrev pub runNoted : List ℕ → Recorded → Turn (Unit {0})
 runNoted log r = answered 0 log (runCode (r .answer)) 0 (r .written) tt (r .out)
 
 abbrev pub benchLogged : Bool → List ℕ → List ℕ → List ℕ → List ℕ → Logged
-benchLogged repeat script pieces buffer log = loggedOf (runNoted log (lent (runSays repeat pieces (length buffer) script) buffer))
+benchLogged repeat script pieces buffer log = loggedOf (runNoted log (runLent (runSays repeat pieces (length buffer) script) buffer))

@@ -48,7 +48,7 @@ fn run_code(answer: RunAnswer) -> u8
 {
     match answer {
         RunAnswer::Complete => 64,
-        RunAnswer::Refused(number) => number,
+        RunAnswer::Refused(refusal) => wire::number(refusal),
     }
 }
 

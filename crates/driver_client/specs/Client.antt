@@ -6,54 +6,57 @@ use Prim.Native.Nat.{ℕ, suc}
 use lib.Dec.{eqb}
 use lib.ListN.{length, take, drop, getD}
 use Rattle.wire.specs.Answer.{Answer, result, refused}
-use Rattle.wire.specs.Call.{Served, lent}
 use Rattle.pid.specs.Lengths.{lengthIn}
 use Rattle.server_state.specs.declared.FeatureSupport.{FeatureSupport}
 use Rattle.server_state.specs.declared.FeatureSupport.the-variants as support
 use Rattle.server_state.specs.State.{countIn}
+use Rattle.client_session.specs.declared.Command.{Command}
+use Rattle.client_session.specs.declared.Command.the-variants as command
 use Rattle.client_session.specs.declared.Under.{Under}
 use Rattle.client_session.specs.declared.Under.the-variants as under
+use Rattle.client_session.specs.declared.Failure.the-variants as failure
 use Rattle.client_session.specs.Session.{Client, client}
-use Rattle.client_session.specs.Start.{initSays, commandSays, queryPidSays, queryPidsSays}
-use Rattle.client_session.specs.Piece.{Progress, awaited, sent, over, complete, pieceLent, failureSays}
+use Rattle.client_session.specs.Call.{Progress, sent, awaited, over, complete, values, valueCount, ClientServed, clientLent}
+use Rattle.client_session.specs.Start.{initSays, commandSays, querySays}
+use Rattle.client_session.specs.Piece.{pieceSays, storeAfter, failureSays}
 use Rattle.client_session.specs.Finish.{finishSays}
 use Rattle.driver_client.specs.declared.ClientTurn.{ClientTurn}
 use Rattle.driver_log.specs.Log.{numberBytes, textEntry, flagByte, Turn, noted, answered, Logged, loggedOf}
 use Rattle.driver_log.specs.Script.{calls}
 
--- a code for each answer: a number of document 01 as itself, a result as 64 and more
-abbrev pub startCode : Answer (Unit {0}) → ℕ
-startCode (result u) = 64
+-- a code for each answer: a number of document 01 as itself, a result as 64 and more; that of a start is 64
+abbrev pub startCode : Answer Progress → ℕ
+startCode (result p) = 64
 startCode (refused n) = n
 
-abbrev pub pieceCode : Answer Progress → ℕ
-pieceCode (result awaited) = 64
-pieceCode (result sent) = 65
-pieceCode (result over) = 66
-pieceCode (result complete) = 67
-pieceCode (refused n) = n
-
-abbrev pub finishCode : Answer ℕ → ℕ
-finishCode (result n) = 64
-finishCode (refused n) = n
+abbrev pub stepCode : Answer Progress → ℕ
+stepCode (result sent) = 65
+stepCode (result awaited) = 64
+stepCode (result over) = 66
+stepCode (result complete) = 67
+stepCode (result (values n)) = 64
+stepCode (refused n) = n
 
 -- how many values a finish gave
-abbrev pub finishCount : Answer ℕ → ℕ
-finishCount (result n) = n
-finishCount (refused n) = 0
+abbrev pub countEntry : Answer Progress → ℕ
+countEntry (result p) = valueCount p
+countEntry (refused n) = 0
 
 abbrev pub supportCode : FeatureSupport → ℕ
 supportCode support.Unknown = 0
 supportCode support.Yes = 1
 supportCode support.No = 2
 
+abbrev pub commandCode : Command → ℕ
+commandCode command.Reset = 1
+commandCode (command.Setup k) = 2
+commandCode (command.Raw e) = 3
+commandCode command.Query = 4
+commandCode command.Repeat = 5
+
 abbrev pub underCode : Under → ℕ
-underCode under.Nothing = 0
-underCode under.Reset = 1
-underCode (under.Setup k) = 2
-underCode (under.Raw e) = 3
-underCode under.Query = 4
-underCode under.Repeat = 5
+underCode under.Idle = 0
+underCode (under.Awaiting k) = commandCode k
 underCode under.Complete = 6
 
 -- a PID's length, 256 where it is unknown
@@ -69,9 +72,9 @@ pidsEntry lengths counts (p ∷ pids) = (numberBytes (lengthNumber (lengthIn len
 -- a session's state: framing, repeat, multi-PID support, what is under way, the last query, and what is known of some PIDs
 abbrev pub stateEntry : Client → List ℕ → List ℕ
 stateEntry c pids =
-    let k = c .known in
-    (flagByte (k .framing) ∷ supportCode (k .repeat) ∷ supportCode (k .multi) ∷ underCode (c .under) ∷ []) ++
-    (textEntry (k .last) ++ pidsEntry (k .lengths) (k .counts) pids)
+    let s = c .server in
+    (flagByte (s .framing) ∷ supportCode (s .repeat) ∷ supportCode (s .«multi_pid») ∷ underCode (c .under) ∷ []) ++
+    (textEntry (c .last) ++ pidsEntry (s .«pid_lengths») (s .«ecu_counts») pids)
 
 -- A turn of a client session, with the store of its replies.
 pub record Stored : Type 0 where
@@ -79,15 +82,15 @@ pub record Stored : Type 0 where
   pub store : List ℕ
 
 -- a call as the host sees it is noted
-abbrev pub startNoted : Stored → Served Client (Unit {0}) → Stored
+abbrev pub startNoted : Stored → ClientServed → Stored
 startNoted t r = record { turn = answered (t .turn .at) (t .turn .log) (startCode (r .answer)) 0 (r .written) (r .next) (r .out); store = t .store }
 
-abbrev pub pieceNoted : Stored → Served Client Progress → List ℕ → Stored
-pieceNoted t r store = record { turn = answered (t .turn .at) (t .turn .log) (pieceCode (r .answer)) 0 (r .written) (r .next) (r .out); store = store }
+abbrev pub pieceNoted : Stored → ClientServed → List ℕ → Stored
+pieceNoted t r store = record { turn = answered (t .turn .at) (t .turn .log) (stepCode (r .answer)) 0 (r .written) (r .next) (r .out); store = store }
 
-abbrev pub finishNoted : Stored → Served Client ℕ → Stored
+abbrev pub finishNoted : Stored → ClientServed → Stored
 finishNoted t r = record {
-  turn = answered (t .turn .at) (t .turn .log) (finishCode (r .answer)) (finishCount (r .answer)) (r .written) (r .next) (r .out);
+  turn = answered (t .turn .at) (t .turn .log) (stepCode (r .answer)) (countEntry (r .answer)) (r .written) (r .next) (r .out);
   store = t .store;
 }
 
@@ -107,10 +110,10 @@ rareCall t kind arg =
     let c = t .turn .session in
     let out = t .turn .out in
     let room = length out in
-    cond (eqb kind 6) (startNoted t (lent (initSays room c) out))
-    (cond (eqb kind 7) (startNoted t (lent (queryPidsSays room c (drop 1 arg) (suc (getD arg 0 0))) out))
-    (cond (eqb kind 8) (pieceNoted t (lent (failureSays room c false) out) (t .store))
-    (cond (eqb kind 9) (pieceNoted t (lent (failureSays room c true) out) (t .store))
+    cond (eqb kind 6) (startNoted t (clientLent (initSays room c) out))
+    (cond (eqb kind 7) (startNoted t (clientLent (querySays room c (drop 1 arg) (suc (getD arg 0 0)) true) out))
+    (cond (eqb kind 8) (pieceNoted t (clientLent (failureSays room c failure.Read) out) (t .store))
+    (cond (eqb kind 9) (pieceNoted t (clientLent (failureSays room c failure.Write) out) (t .store))
     (cond (eqb kind 10) (shown t (textEntry (take (c .got) (t .store)))) (shown t (stateEntry c arg))))))
 
 -- a call by its kind: 1 is `command`, 2 `query_pid` with a PID and perhaps a count, 3 `query_pids` with no count, 4 `piece`, 5 `finish`
@@ -119,11 +122,11 @@ clientCall t kind arg =
     let c = t .turn .session in
     let out = t .turn .out in
     let room = length out in
-    cond (eqb kind 1) (startNoted t (lent (commandSays room c arg) out))
-    (cond (eqb kind 2) (startNoted t (lent (queryPidSays room c (getD arg 0 0) (countGiven arg)) out))
-    (cond (eqb kind 3) (startNoted t (lent (queryPidsSays room c arg 0) out))
-    (cond (eqb kind 4) (let r = pieceLent c arg (t .store) out in pieceNoted t (r .served) (r .store))
-    (cond (eqb kind 5) (finishNoted t (lent (finishSays room c (t .store)) out)) (rareCall t kind arg)))))
+    cond (eqb kind 1) (startNoted t (clientLent (commandSays room c arg) out))
+    (cond (eqb kind 2) (startNoted t (clientLent (querySays room c (getD arg 0 0 ∷ []) (countGiven arg) false) out))
+    (cond (eqb kind 3) (startNoted t (clientLent (querySays room c arg 0 true) out))
+    (cond (eqb kind 4) (let d = pieceSays room c arg (t .store) in pieceNoted t (clientLent d out) (storeAfter c (d .answer) arg (t .store)))
+    (cond (eqb kind 5) (finishNoted t (clientLent (finishSays room c (t .store)) out)) (rareCall t kind arg)))))
 
 abbrev pub clientTurn : ClientTurn → List ℕ → List ℕ → List ℕ → Stored
 clientTurn r store out log = record { turn = record { session = client (r .session); at = r .at; out = out; log = log }; store = store }

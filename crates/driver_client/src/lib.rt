@@ -1,9 +1,8 @@
 // Runs scripts of calls on a client session, and logs what each call answered.
+use client_session::ClientAnswer;
 use client_session::ClientSession;
+use client_session::Command;
 use client_session::Failure;
-use client_session::FinishAnswer;
-use client_session::PieceAnswer;
-use client_session::StartAnswer;
 use client_session::Under;
 use pid::DataLength;
 use query::EcuCount;
@@ -15,12 +14,10 @@ ghost use Rattle.wire.specs.Put.{Put};
 ghost use Rattle.pid.specs.Lengths.{dataLength};
 ghost use Rattle.query.specs.Query.{countOf};
 ghost use Rattle.client_session.specs.Session.{client, freshClient};
-ghost use Rattle.client_session.specs.Start.{startAnswer};
-ghost use Rattle.client_session.specs.Piece.{pieceAnswer};
-ghost use Rattle.client_session.specs.Finish.{finishAnswer};
+ghost use Rattle.client_session.specs.Call.{clientAnswer};
 ghost use Rattle.driver_log.specs.Log.{textEntry};
 ghost use Rattle.driver_log.specs.Script.{calls, rounds};
-ghost use Rattle.driver_client.specs.Client.{startCode, pieceCode, finishCode, finishCount, supportCode, underCode, lengthNumber, pidsEntry, stateEntry, countGiven, rareCall, clientCall, clientTurn, clientAt, clientRun, storedOf, storedAs};
+ghost use Rattle.driver_client.specs.Client.{startCode, stepCode, countEntry, supportCode, commandCode, underCode, lengthNumber, pidsEntry, stateEntry, countGiven, rareCall, clientCall, clientTurn, clientAt, clientRun, storedOf, storedAs};
 
 // A session after some calls of a script, and the position in the log after their entries.
 struct ClientTurn {
@@ -28,57 +25,47 @@ struct ClientTurn {
     at: usize,
 }
 
-// The codes of answers: a number of document 01 as itself, and a result as 64 or more.
-fn start_code(answer: StartAnswer) -> u8
-    ensures { λ r. ⌜ r ≡ startCode (startAnswer answer) ⌝ }
+// The codes of answers: a number of document 01 as itself, and a result as 64 or more; that of a start is 64.
+fn start_code(answer: ClientAnswer) -> u8
+    ensures { λ r. ⌜ r ≡ startCode (clientAnswer answer) ⌝ }
 {
     match answer {
-        StartAnswer::Sent => 64,
-        StartAnswer::OutOfTurn => 1,
-        StartAnswer::PidCount => 2,
-        StartAnswer::TooLong => 3,
-        StartAnswer::NotAscii => 4,
-        StartAnswer::SmallBuffer => 6,
+        ClientAnswer::Sent => 64,
+        ClientAnswer::Awaited => 64,
+        ClientAnswer::Over => 64,
+        ClientAnswer::Complete => 64,
+        ClientAnswer::Values(_) => 64,
+        ClientAnswer::Refused(refusal) => wire::number(refusal),
+        ClientAnswer::Failed(refusal) => wire::number(refusal),
     }
 }
 
-fn piece_code(answer: PieceAnswer) -> u8
-    ensures { λ r. ⌜ r ≡ pieceCode (pieceAnswer answer) ⌝ }
+fn step_code(answer: ClientAnswer) -> u8
+    ensures { λ r. ⌜ r ≡ stepCode (clientAnswer answer) ⌝ }
 {
     match answer {
-        PieceAnswer::Awaited => 64,
-        PieceAnswer::Sent => 65,
-        PieceAnswer::Over => 66,
-        PieceAnswer::Complete => 67,
-        PieceAnswer::OutOfTurn => 1,
-        PieceAnswer::TooLong => 3,
-        PieceAnswer::SmallBuffer => 6,
-        PieceAnswer::Failed => 7,
-        PieceAnswer::TooMuch => 8,
-        PieceAnswer::NotAscii => 9,
-    }
-}
-
-fn finish_code(answer: FinishAnswer) -> u8
-    ensures { λ r. ⌜ r ≡ finishCode (finishAnswer answer) ⌝ }
-{
-    match answer {
-        FinishAnswer::Values(_) => 64,
-        FinishAnswer::OutOfTurn => 1,
-        FinishAnswer::SmallBuffer => 6,
-        FinishAnswer::NotAscii => 9,
+        ClientAnswer::Sent => 65,
+        ClientAnswer::Awaited => 64,
+        ClientAnswer::Over => 66,
+        ClientAnswer::Complete => 67,
+        ClientAnswer::Values(_) => 64,
+        ClientAnswer::Refused(refusal) => wire::number(refusal),
+        ClientAnswer::Failed(refusal) => wire::number(refusal),
     }
 }
 
 // How many values a finish gave.
-fn finish_count(answer: FinishAnswer) -> usize
-    ensures { λ r. ⌜ r ≡ finishCount (finishAnswer answer) ⌝ }
+fn value_count(answer: ClientAnswer) -> usize
+    ensures { λ r. ⌜ r ≡ countEntry (clientAnswer answer) ⌝ }
 {
     match answer {
-        FinishAnswer::Values(count) => count,
-        FinishAnswer::OutOfTurn => 0,
-        FinishAnswer::SmallBuffer => 0,
-        FinishAnswer::NotAscii => 0,
+        ClientAnswer::Sent => 0,
+        ClientAnswer::Awaited => 0,
+        ClientAnswer::Over => 0,
+        ClientAnswer::Complete => 0,
+        ClientAnswer::Values(count) => count,
+        ClientAnswer::Refused(_) => 0,
+        ClientAnswer::Failed(_) => 0,
     }
 }
 
@@ -92,16 +79,24 @@ fn support_code(support: FeatureSupport) -> u8
     }
 }
 
+fn command_code(command: Command) -> u8
+    ensures { λ r. ⌜ r ≡ commandCode command ⌝ }
+{
+    match command {
+        Command::Reset => 1,
+        Command::Setup(_) => 2,
+        Command::Raw(_) => 3,
+        Command::Query => 4,
+        Command::Repeat => 5,
+    }
+}
+
 fn under_code(under: Under) -> u8
     ensures { λ r. ⌜ r ≡ underCode under ⌝ }
 {
     match under {
-        Under::Nothing => 0,
-        Under::Reset => 1,
-        Under::Setup(_) => 2,
-        Under::Raw(_) => 3,
-        Under::Query => 4,
-        Under::Repeat => 5,
+        Under::Idle => 0,
+        Under::Awaiting(command) => command_code(command),
         Under::Complete => 6,
     }
 }
@@ -162,7 +157,7 @@ fn put_pids(server: ServerState, pids: &[u8], log: &mut [u8], at: usize) -> usiz
 }
 
 fn put_last(session: ClientSession, log: &mut [u8], at: usize) -> usize
-    ensures { λ r. ⌜ Put (now (log .entry)) at (textEntry (client session .known .last)) r (now (log .exit)) ⌝ }
+    ensures { λ r. ⌜ Put (now (log .entry)) at (textEntry (client session .last)) r (now (log .exit)) ⌝ }
 {
     let last = session.last;
     let bytes = last.bytes;
@@ -175,8 +170,8 @@ fn put_state(session: ClientSession, arg: &[u8], log: &mut [u8], at: usize) -> u
     ensures { λ r. ⌜ Put (now (log .entry)) at (stateEntry (client session) (now (arg .entry))) r (now (log .exit)) ⌝ }
 {
     let server = session.server;
-    let turn = session.turn;
-    let under = turn.under;
+    let pending = session.pending;
+    let under = pending.under;
     let first = [
         driver_log::flag(server.framing()),
         support_code(server.repeat()),
@@ -192,7 +187,7 @@ fn put_state(session: ClientSession, arg: &[u8], log: &mut [u8], at: usize) -> u
 fn put_reply(session: ClientSession, store: &[u8], log: &mut [u8], at: usize) -> usize
     ensures { λ r. ⌜ Put (now (log .entry)) at (textEntry (take (client session .got) (now (store .entry)))) r (now (log .exit)) ⌝ }
 {
-    let size = wire::at_most(session.turn.got, store.len());
+    let size = wire::at_most(session.pending.got, store.len());
     driver_log::put_text(log, at, &store[..size])
 }
 
@@ -234,7 +229,7 @@ fn rare(
             let next = step.session;
             ClientTurn {
                 session: next,
-                at: driver_log::put_call(log, at, piece_code(answer), 0, out, step.written),
+                at: driver_log::put_call(log, at, step_code(answer), 0, out, step.written),
             }
         }
         9 => {
@@ -243,7 +238,7 @@ fn rare(
             let next = step.session;
             ClientTurn {
                 session: next,
-                at: driver_log::put_call(log, at, piece_code(answer), 0, out, step.written),
+                at: driver_log::put_call(log, at, step_code(answer), 0, out, step.written),
             }
         }
         10 => ClientTurn {
@@ -303,7 +298,7 @@ fn run(
                 let step = session.piece(&script[start..end], store, out);
                 let answer = step.answer;
                 session = step.session;
-                at = driver_log::put_call(log, at, piece_code(answer), 0, out, step.written);
+                at = driver_log::put_call(log, at, step_code(answer), 0, out, step.written);
             }
             5 => {
                 let step = session.finish(store, out);
@@ -312,8 +307,8 @@ fn run(
                 at = driver_log::put_call(
                     log,
                     at,
-                    finish_code(answer),
-                    finish_count(answer),
+                    step_code(answer),
+                    value_count(answer),
                     out,
                     step.written,
                 );

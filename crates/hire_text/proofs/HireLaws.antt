@@ -12,7 +12,7 @@ use Rattle.wire.specs.Put.{Written as Filled}
 use Rattle.wire.specs.Text.{joined}
 use Rattle.wire.proofs.PutLaws.{put-then, put-front, put-whole, whole-small, whole-stored, whole-told, whole-length}
 use Rattle.bench.specs.declared.BenchRun.{BenchRun}
-use Rattle.bench.specs.Run.{runSays, runAnswer, Recorded, recorded, lent}
+use Rattle.bench.specs.Run.{runSays, runAnswer, Recorded, recorded, runLent}
 use Rattle.hire_text.proofs.LineLaws.{lines-length, stop-length}
 use Rattle.hire_text.proofs.StandLaws.{run-fits, run-parts}
 use Rattle.hire_text.specs.Hire.{hexLines, stopLine, hireRun, hireText, hireWritten}
@@ -21,14 +21,14 @@ use Rattle.hire_text.specs.declared.HireAnswer.the-variants.{Written, Re
 use Rattle.hire_text.specs.Steps.{AreParts}
 
 -- what was written stands inside the buffer, in any run
-pub run-inside : (repeat : Bool) (ks s buffer left : List ℕ) (r : BenchRun) → recorded r left ≡ lent (runSays repeat ks (length buffer) s) buffer → r .written ≤ length left
+pub run-inside : (repeat : Bool) (ks s buffer left : List ℕ) (r : BenchRun) → recorded r left ≡ runLent (runSays repeat ks (length buffer) s) buffer → r .written ≤ length left
 run-inside repeat ks s buffer left r e =
     let bytes = joined (runSays repeat ks (length buffer) s .parts) in
     let w : r .written ≡ length bytes = ap (λ (v : Recorded). v .written) e in
     let o : left ≡ sets buffer 0 bytes = ap (λ (v : Recorded). v .out) e in
     omega (arith, run-fits repeat ks (length buffer) s, ap length o, length-sets buffer 0 bytes)
 
-module _ (s buffer left : List ℕ) (r : BenchRun) (e : recorded r left ≡ lent (runSays true [] (length buffer) s) buffer) where
+module _ (s buffer left : List ℕ) (r : BenchRun) (e : recorded r left ≡ runLent (runSays true [] (length buffer) s) buffer) where
   abbrev parts : List (List ℕ)
   parts = hireRun (length buffer) s .parts
 

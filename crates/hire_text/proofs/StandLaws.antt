@@ -7,9 +7,9 @@ use lib.Dec.{ltb}
 use lib.ListN.{length, length-append}
 use borrow.Author.Tests.{ltb-false}
 use Rattle.wire.specs.Answer.{Answer, result, refused}
-use Rattle.wire.specs.Call.{Said}
 use Rattle.wire.specs.Text.{high, joined}
 use Rattle.wire.proofs.Cases.{by-test}
+use Rattle.wire.proofs.UnlessLaws.{unless-by}
 use Rattle.group.specs.Group.{groupBytes}
 use Rattle.line_list.specs.Lines.{linesBytes}
 use Rattle.value.specs.Values.{Value, valuesBytes}
@@ -17,21 +17,26 @@ use Rattle.value.proofs.RecordLaws.{ValuesFit, part-back}
 use Rattle.reply_lines.specs.Decode.{replyLines}
 use Rattle.reply_values.specs.Values.{valuesOf, answerOrder}
 use Rattle.reply_values.specs.Learn.{lengthsAfter}
+use Rattle.reply_values.specs.Read.{reading}
 use Rattle.reply_values.proofs.WalkLaws.{values-fit}
 use Rattle.reply_values.proofs.ReadLaws.{reply-known}
 use Rattle.client_session.specs.Session.{Client}
-use Rattle.client_session.specs.Piece.{Progress, replyIn}
-use Rattle.client_session.specs.Finish.{isComplete, finishReply, finishSays}
+use Rattle.client_session.specs.Call.{Progress, valueCount, ClientSaid}
+use Rattle.client_session.specs.Piece.{replyIn}
+use Rattle.client_session.specs.Finish.{question, givesValues, finishSays}
 use Rattle.script.specs.Script.{Query, script}
-use Rattle.bench.specs.Run.{valuesRoom, Bench, Turn, initialised, startSays, asking, partOf, finishing, part, Run, sizeOf, standing, asked, begun, runRead, runSays}
+use Rattle.bench.specs.Run.{valuesRoom, Bench, Round, initialised, startSays, asking, partOf, finishing, part, Run, sizeOf, standing, asked, begun, runRead, runSays}
 use Rattle.hire_text.specs.Steps.{IsPart, AreParts}
 
 -- ---- a query's part, from any sessions
 
 -- what a finish says is a part
-abbrev SaysPart : Said Client ℕ → Answer ℕ → Type 0
-SaysPart f (refused n) = Unit {0}
-SaysPart f (result n) = IsPart (groupBytes n ++ f .text)
+abbrev AnswersPart : Answer Progress → List ℕ → Type 0
+AnswersPart (refused n) text = Unit {0}
+AnswersPart (result p) text = IsPart (groupBytes (valueCount p) ++ text)
+
+abbrev SaysPart : ClientSaid → Type 0
+SaysPart f = AnswersPart (f .answer) (f .text)
 
 -- the order of an answer keeps the number of values, and each can be read back
 ordered-part : (vs : List Value) → ValuesFit vs → IsPart (groupBytes (length (answerOrder vs)) ++ valuesBytes (answerOrder vs))
@@ -39,44 +44,30 @@ unfolding answerOrder
 ordered-part vs h = λ rest. (vs, part-back vs rest h)
 
 -- an id has three digits, so ECU+1 is at most 4,096
-reply-part : (room : ℕ) (c : Client) (reply : List ℕ) → SaysPart (finishReply room c reply) (finishReply room c reply .answer)
+reply-part : (room : ℕ) (c : Client) (reply : List ℕ) → SaysPart (givesValues room c (reading (question c) reply))
 reply-part room c reply =
-    let ls = replyLines (c .known .framing) reply in
-    let lengths = lengthsAfter (c .query .several) (c .query .pids) (c .known .lengths) ls in
-    let vs = valuesOf lengths ls in
-    by-test (ltb room (length (valuesBytes (answerOrder vs))))
-    (λ e. rw e tt)
-    (λ e. rw e (ordered-part vs (values-fit lengths ls (reply-known (c .known .framing) reply))))
+    let ls = replyLines (c .server .framing) reply in
+    let lengths = lengthsAfter (c .query .several) (c .query .pids) (c .server .«pid_lengths») ls in
+    unless-by SaysPart _ (λ n. tt) (λ _. ordered-part (valuesOf lengths ls) (values-fit lengths ls (reply-known (c .server .framing) reply)))
 
-finish-part : (room : ℕ) (c : Client) (store : List ℕ) → SaysPart (finishSays room c store) (finishSays room c store .answer)
+finish-part : (room : ℕ) (c : Client) (store : List ℕ) → SaysPart (finishSays room c store)
 unfolding finishSays
-finish-part room c store =
-    by-test (isComplete (c .under))
-    (λ e.
-    rw e
-    (by-test (ltb (length store) 4096)
-    (λ f. rw f tt)
-    (λ f.
-    rw f
-    (by-test (high (replyIn c store))
-    (λ g. rw g tt)
-    (λ g. rw g (reply-part room c (replyIn c store)))))))
-    (λ e. rw e tt)
+finish-part room c store = unless-by SaysPart _ (λ n. tt) (λ _. unless-by SaysPart _ (λ n. tt) (λ _. reply-part room c (replyIn c store)))
 
 -- the answer of a query is a part, or a number
 abbrev AnswerPart : Answer (List ℕ) → Type 0
 AnswerPart (refused n) = Unit {0}
 AnswerPart (result bytes) = IsPart bytes
 
-part-of : (f : Said Client ℕ) (a : Answer ℕ) → SaysPart f a → AnswerPart (partOf f a)
-part-of f (refused n) h = tt
-part-of f (result n) h = h
+part-of : (a : Answer Progress) (text : List ℕ) → AnswersPart a text → AnswerPart (partOf a text)
+part-of (refused n) text h = tt
+part-of (result p) text h = h
 
-finishing-part : (t : Turn) (a : Answer Progress) → AnswerPart (finishing t a .answer)
+finishing-part : (t : Round) (a : Answer Progress) → AnswerPart (finishing t a .answer)
 finishing-part t (refused n) = tt
 finishing-part t (result p) =
     let f = finishSays valuesRoom (t .bench .client) (t .bench .store) in
-    part-of f (f .answer) (finish-part valuesRoom (t .bench .client) (t .bench .store))
+    part-of (f .answer) (f .text) (finish-part valuesRoom (t .bench .client) (t .bench .store))
 
 query-part : (b : Bench) (q : Query) → AnswerPart (part b q .answer)
 unfolding part
@@ -108,7 +99,7 @@ asked-stand room b (q ∷ qs) =
     let others = asked (room - sizeOf (p .answer)) (p .bench) qs in
     one-stands room (p .answer) (p .handed) others (query-part b q) (asked-stand (room - sizeOf (p .answer)) (p .bench) qs)
 
-begun-stand : (room : ℕ) (t : Turn) (a : Answer Progress) (qs : List Query) → Stand room (begun room t a qs .parts)
+begun-stand : (room : ℕ) (t : Round) (a : Answer Progress) (qs : List Query) → Stand room (begun room t a qs .parts)
 begun-stand room t (refused n) qs = none-stands room
 begun-stand room t (result p) qs = asked-stand room (t .bench) qs
 

@@ -102,7 +102,7 @@ fn put_stop(out: &mut [u8], answer: RunAnswer) -> usize
 {
     match answer {
         RunAnswer::Complete => 0,
-        RunAnswer::Refused(number) => put_refused(out, 0, number),
+        RunAnswer::Refused(refusal) => put_refused(out, 0, wire::number(refusal)),
     }
 }
 

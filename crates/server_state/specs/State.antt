@@ -26,8 +26,8 @@ mayTry support.Yes = true
 mayTry support.No = false
 
 -- nothing is set or learned
-abbrev pub fresh : Bool → ServerState
-fresh repeat = record {
+abbrev pub nothingLearned : Bool → ServerState
+nothingLearned repeat = record {
   framing = false;
   repeat = supportAtFirst repeat;
   «multi_pid» = support.Unknown;
@@ -44,6 +44,9 @@ abbrev pub countIn : List ℕ → ℕ → ℕ
 countIn counts pid = learned (getD counts pid 0)
 
 -- ---- parts changed
+
+abbrev pub withFraming : ServerState → Bool → ServerState
+withFraming s f = record { framing = f; repeat = s .repeat; «multi_pid» = s .«multi_pid»; «pid_lengths» = s .«pid_lengths»; «ecu_counts» = s .«ecu_counts» }
 
 abbrev pub withRepeat : ServerState → FeatureSupport → ServerState
 withRepeat s r = record { framing = s .framing; repeat = r; «multi_pid» = s .«multi_pid»; «pid_lengths» = s .«pid_lengths»; «ecu_counts» = s .«ecu_counts» }

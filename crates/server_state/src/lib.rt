@@ -4,7 +4,7 @@ use query::EcuCount;
 ghost use mathlib.Core.Path.{_≡_};
 ghost use Rattle.pid.specs.Lengths.{dataLength, lengthIn};
 ghost use Rattle.query.specs.Query.{countOf};
-ghost use Rattle.server_state.specs.State.{supportAtFirst, decided, mayTry, fresh, countIn, withRepeat, withMulti};
+ghost use Rattle.server_state.specs.State.{supportAtFirst, decided, mayTry, nothingLearned, countIn, withRepeat, withMulti};
 
 // Whether the peer supports an optional feature.
 pub enum FeatureSupport {
@@ -64,7 +64,7 @@ pub struct ServerState {
 impl ServerState {
     // Nothing is set or learned; repeats are tried or not, as told.
     pub fn new(repeat: bool) -> ServerState
-        ensures { λ r. ⌜ r ≡ fresh repeat ⌝ }
+        ensures { λ r. ⌜ r ≡ nothingLearned repeat ⌝ }
     {
         ServerState {
             framing: false,

@@ -1,7 +1,7 @@
 -- `bench::ask_all` meets its contract.
 use Rattle.bench.proofs.LoopLaws.{Left, left-start, left-done, left-refused, left-next}
 use Rattle.bench.specs.Steps.{benchOf, queriesOf}
-use Rattle.bench.specs.Run.{replyRoom, asked, Recorded, lent}
+use Rattle.bench.specs.Run.{replyRoom, asked, Recorded, runLent}
 use Rattle.script.proofs.StepLaws.{QueryHere, step-query}
 use Rattle.script.specs.Script.{Query}
 use Rattle.wire.proofs.All.{Bytes, all-from}
@@ -15,7 +15,7 @@ use Rattle.bench.proofs.ask_all.Tie as tie
 
 abbrev Inv-loop : tie.InvT-loop
 Inv-loop script lengths bench₀ buffer₀ work₀ store₀ cursor₀ at₀ bench buffer work store cursor at =
-    Left (lent (asked (length buffer₀) (benchOf bench₀ store₀ lengths) (queriesOf script)) buffer₀) script lengths bench (cursor .at) at buffer store × (length work ≡ replyRoom) ×
+    Left (runLent (asked (length buffer₀) (benchOf bench₀ store₀ lengths) (queriesOf script)) buffer₀) script lengths bench (cursor .at) at buffer store × (length work ≡ replyRoom) ×
     (length buffer ≡ length buffer₀) × (length store ≡ length store₀)
 
 abbrev μ-loop : tie.MeasureT-loop
@@ -32,7 +32,7 @@ start k = k .before .before .before .before .before .before .before
 -- all that the run comes to
 abbrev whole : tie.Start Inv-loop μ-loop → Recorded
 whole s =
-    lent (asked (length (s .args .buffer .now)) (benchOf (s .args .bench) (s .args .store .now) (s .args .lengths .now)) (queriesOf (s .args .script .now))) (s .args .buffer .now)
+    runLent (asked (length (s .args .buffer .now)) (benchOf (s .args .bench) (s .args .store .now) (s .args .lengths .now)) (queriesOf (s .args .script .now))) (s .args .buffer .now)
 
 abbrev turn : tie.After-known-told Inv-loop μ-loop → tie.At-loop Inv-loop μ-loop
 turn k = k .before .before .before .before

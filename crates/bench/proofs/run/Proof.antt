@@ -1,5 +1,4 @@
 -- `bench::run` meets its contract.
-use mathlib.Core.Path.{_∙_}
 use borrow.Author.Needs.{needs}
 use Rattle.script.proofs.CheckLaws.{check-queries, check-none}
 use Rattle.bench.proofs.RunLaws.{script-refused}
@@ -21,9 +20,6 @@ run-checked-requires c κs =
 enum-known-refusal : tie.Need-enum-known-refusal
 enum-known-refusal c = search needs
 
-number-requires : tie.Need-number-requires
-number-requires c κs = search needs
-
 refused-requires : tie.Need-refused-requires
 refused-requires c κs = search needs
 
@@ -35,12 +31,11 @@ returns c = search needs
 
 returns-2 : tie.Need-returns-2
 returns-2 c =
-    let refusal = c .before .before .before in
-    let m = refusal .before .before in
+    let refusal = c .before .before .refusal in
+    let m = c .before .before .before .before in
     let s = m .before .before .before .before in
-    let number = c .before .number .ensures in
     script-refused (s .args .repeat) (s .args .lengths .now) (s .args .script .now) (s .args .buffer .now) _ (c .refused .result)
-    (check-none (s .args .script .now) (m .check-script .ensures) (refusal .refusal .given .1)) (c .refused .ensures ∙ rw number)
+    (check-none (s .args .script .now) (m .check-script .ensures) (refusal .given .1)) (c .refused .ensures)
 
 pub run-spec : {M : Type 1} → statement M
 run-spec =
@@ -50,7 +45,6 @@ run-spec =
     enum-told
     run-checked-requires
     enum-known-refusal
-    number-requires
     refused-requires
     same-length
     returns

@@ -1,16 +1,16 @@
 -- `driver_client::put_pids` meets its contract.
-use Rattle.driver_log.proofs.LogLaws.{put-as}
-use Rattle.driver_client.proofs.EntryLaws.{pids-turn}
-use Rattle.driver_client.specs.Client.{lengthNumber, pidsEntry}
-use Rattle.driver_log.specs.Log.{numberBytes}
-use Rattle.wire.proofs.PutLaws.{put-then, put-nil, put-length}
-use Rattle.wire.specs.Put.{Put}
-use borrow.Author.Needs.{needs}
+use mathlib.Core.Path.{_≡_, refl, sym, ap, _∙_}
+use Prim.Native.Nat.{_+_, _-_, _≤_, min}
+use native.Mathlib.Omega.{arith}
 use lib.ListN.{length, drop, drop-of-length-le}
 use lib.Seq.{sets}
-use native.Mathlib.Omega.{arith}
-use Prim.Native.Nat.{_+_, _-_, _≤_, min}
-use mathlib.Core.Path.{_≡_, refl, sym, ap, _∙_}
+use borrow.Author.Needs.{needs}
+use Rattle.wire.proofs.PutLaws.{put-then, put-nil, put-length}
+use Rattle.wire.specs.Put.{Put}
+use Rattle.driver_log.proofs.LogLaws.{put-as}
+use Rattle.driver_log.specs.Log.{numberBytes}
+use Rattle.driver_client.specs.Client.{lengthNumber, pidsEntry}
+use Rattle.driver_client.proofs.EntryLaws.{pids-turn}
 use Rattle.driver_client.proofs.put_pids.Statement.{statement}
 use Rattle.driver_client.proofs.put_pids.Tie as tie
 
@@ -51,16 +51,40 @@ add-i : tie.Need-add-i Inv-loop μ-loop
 add-i c = search needs
 
 loop-less : tie.Need-loop-less Inv-loop μ-loop
-loop-less c = omega (arith, c .before .before .before .before .before .before .before .before .before .before .before .before .before .loop-test .taken)
+loop-less c =
+    let loop-test = c .before .before .before .before .before .before .before .before .before .before .before .before .before .loop-test in
+    omega (arith, loop-test .taken)
 
 loop-again : tie.Need-loop-again Inv-loop μ-loop
-loop-again c = let q = put-then (put-as (ap numberBytes (c .before .before .before .before .before .before .before .before .before .length-number .ensures ∙ ap lengthNumber (c .before .before .before .before .before .before .before .before .before .before .data-length .ensures))) (c .before .before .before .before .before .before .before .before .put-number .ensures)) (put-as (ap numberBytes (c .before .before .before .count-number .ensures ∙ c .before .before .before .before .ecu-count .ensures)) (c .before .before .put-number2 .ensures)) in (omega (arith, c .before .before .before .before .before .before .before .before .before .before .before .before .before .loop-test .taken), put-length q ∙ c .before .before .before .before .before .before .before .before .before .before .before .before .before .before .loop .inv .1, pids-turn (c .before .before .before .before .before .before .before .before .before .before .before .before .before .before .before .before .before .args .server .«pid_lengths») (c .before .before .before .before .before .before .before .before .before .before .before .before .before .before .before .before .before .args .server .«ecu_counts») (c .before .before .before .before .before .before .before .before .before .before .before .before .before .before .before .before .before .args .pids .now) (c .before .before .before .before .before .before .before .before .before .before .before .before .before .before .loop .i) (c .before .before .before .before .before .before .before .before .before .before .before .before .before .loop-test .taken) (c .before .before .before .before .before .before .before .before .before .before .before .before .before .before .loop .inv .2) q)
+loop-again c =
+    let a = c .before .before .before .before .before .before .before .before .before .before .before .before .before .before .before .before .before .args in
+    let loop = c .before .before .before .before .before .before .before .before .before .before .before .before .before .before .loop in
+    let loop-test = c .before .before .before .before .before .before .before .before .before .before .before .before .before .loop-test in
+    let data-length = c .before .before .before .before .before .before .before .before .before .before .data-length in
+    let length-number = c .before .before .before .before .before .before .before .before .before .length-number in
+    let put-number = c .before .before .before .before .before .before .before .before .put-number in
+    let ecu-count = c .before .before .before .before .ecu-count in
+    let count-number = c .before .before .before .count-number in
+    let put-number2 = c .before .before .put-number2 in
+    let q =
+    put-then (put-as (ap numberBytes (length-number .ensures ∙ ap lengthNumber (data-length .ensures))) (put-number .ensures))
+    (put-as (ap numberBytes (count-number .ensures ∙ ecu-count .ensures)) (put-number2 .ensures)) in (
+      omega (arith, loop-test .taken),
+      put-length q ∙ loop .inv .1,
+      pids-turn (a .server .«pid_lengths») (a .server .«ecu_counts») (a .pids .now) (loop .i) (loop-test .taken) (loop .inv .2) q,
+    )
 
 same-length : tie.Need-same-length Inv-loop μ-loop
 same-length c = c .before .loop .inv .1
 
 returns : tie.Need-returns Inv-loop μ-loop
-returns c = let p = put-nil (put-as (ap (pidsEntry (c .before .before .before .before .args .server .«pid_lengths») (c .before .before .before .before .args .server .«ecu_counts»)) (drop-of-length-le (c .before .before .before .before .args .pids .now) (c .loop-test .left))) (c .before .loop .inv .2)) in record { next = sym (p .0); bytes = sym (p .1) }
+returns c =
+    let a = c .before .before .before .before .args in
+    let p =
+    put-nil
+    (put-as (ap (pidsEntry (a .server .«pid_lengths») (a .server .«ecu_counts»)) (drop-of-length-le (a .pids .now) (c .loop-test .left)))
+    (c .before .loop .inv .2)) in
+    record { next = sym (p .0); bytes = sym (p .1) }
 
 pub put-pids-spec : {M : Type 1} → statement M
 put-pids-spec =

@@ -1,6 +1,6 @@
 -- `driver_client::put_state` meets its contract.
-use Rattle.wire.proofs.PutLaws.{put-then}
 use borrow.Author.Needs.{needs}
+use Rattle.wire.proofs.PutLaws.{put-then}
 use Rattle.driver_client.proofs.put_state.Statement.{statement}
 use Rattle.driver_client.proofs.put_state.Tie as tie
 
@@ -41,7 +41,23 @@ same-length : tie.Need-same-length
 same-length c = search needs
 
 returns : tie.Need-returns
-returns c = rw (← c .before .before .before .before .before .before .before .before .before .before .before .before .before .before .before .before .before .before .before .framing .ensures, ← c .before .before .before .before .before .before .before .before .before .before .before .before .before .before .before .before .before .before .flag .ensures, ← c .before .before .before .before .before .before .before .before .before .before .before .before .before .before .before .before .before .repeat .ensures, ← c .before .before .before .before .before .before .before .before .before .before .before .before .before .before .before .before .support-code .ensures, ← c .before .before .before .before .before .before .before .before .before .before .before .before .before .before .before .multi-pid .ensures, ← c .before .before .before .before .before .before .before .before .before .before .before .before .before .before .support-code2 .ensures, ← c .before .before .before .before .before .before .before .before .before .before .before .before .before .under-code .ensures) (put-then (c .before .before .before .before .before .before .before .before .before .before .put .ensures) (put-then (c .before .before .before .before .before .before .put-last .ensures) (c .before .before .put-pids .ensures)))
+returns c =
+    let framing =
+    c .before .before .before .before .before .before .before .before .before .before .before .before .before .before .before .before .before .before .before
+    .framing in
+    let flag =
+    c .before .before .before .before .before .before .before .before .before .before .before .before .before .before .before .before .before .before .flag in
+    let repeat = c .before .before .before .before .before .before .before .before .before .before .before .before .before .before .before .before .before .repeat in
+    let support-code =
+    c .before .before .before .before .before .before .before .before .before .before .before .before .before .before .before .before .support-code in
+    let multi-pid = c .before .before .before .before .before .before .before .before .before .before .before .before .before .before .before .multi-pid in
+    let support-code2 = c .before .before .before .before .before .before .before .before .before .before .before .before .before .before .support-code2 in
+    let under-code = c .before .before .before .before .before .before .before .before .before .before .before .before .before .under-code in
+    let put = c .before .before .before .before .before .before .before .before .before .before .put in
+    let put-last = c .before .before .before .before .before .before .put-last in
+    let put-pids = c .before .before .put-pids in
+    rw (← framing .ensures, ← flag .ensures, ← repeat .ensures, ← support-code .ensures, ← multi-pid .ensures, ← support-code2 .ensures, ← under-code .ensures)
+    (put-then (put .ensures) (put-then (put-last .ensures) (put-pids .ensures)))
 
 pub put-state-spec : {M : Type 1} → statement M
 put-state-spec =

@@ -1,14 +1,16 @@
 -- `driver_client::rare` meets its contract.
-use Rattle.wire.specs.Call.{lent}
-use Rattle.driver_client.proofs.CallLaws.{with, client-state}
+-- `driver_client::rare` meets its contract.
+use mathlib.Core.Bool.{true}
+use mathlib.Core.Path.{sym, ap, _∙_}
+use Prim.Native.Nat.{suc}
+use lib.ListN.{length, drop}
+use borrow.Author.Needs.{needs}
+use Rattle.client_session.specs.Call.{clientLent}
+use Rattle.client_session.specs.Session.{client}
+use Rattle.client_session.specs.Start.{querySays}
 use Rattle.driver_log.proofs.LogLaws.{noted-is, answered-is}
 use Rattle.driver_client.specs.Client.{startNoted, pieceNoted, rareCall, clientAt}
-use Rattle.client_session.specs.Start.{queryPidsSays}
-use Rattle.client_session.specs.Session.{client}
-use lib.ListN.{length, drop}
-use Prim.Native.Nat.{suc}
-use mathlib.Core.Path.{sym, ap, _∙_}
-use borrow.Author.Needs.{needs}
+use Rattle.driver_client.proofs.CallLaws.{with, client-state}
 use Rattle.driver_client.proofs.rare.Statement.{statement}
 use Rattle.driver_client.proofs.rare.Tie as tie
 
@@ -39,8 +41,8 @@ put-call-requires-2 c κs = search needs
 failure-requires : tie.Need-failure-requires
 failure-requires c κs = search needs
 
-piece-code-requires : tie.Need-piece-code-requires
-piece-code-requires c κs = search needs
+step-code-requires : tie.Need-step-code-requires
+step-code-requires c κs = search needs
 
 put-call-requires-3 : tie.Need-put-call-requires-3
 put-call-requires-3 c κs = search needs
@@ -48,8 +50,8 @@ put-call-requires-3 c κs = search needs
 failure-requires-2 : tie.Need-failure-requires-2
 failure-requires-2 c κs = search needs
 
-piece-code-requires-2 : tie.Need-piece-code-requires-2
-piece-code-requires-2 c κs = search needs
+step-code-requires-2 : tie.Need-step-code-requires-2
+step-code-requires-2 c κs = search needs
 
 put-call-requires-4 : tie.Need-put-call-requires-4
 put-call-requires-4 c κs = search needs
@@ -67,7 +69,16 @@ same-length-2 : tie.Need-same-length-2
 same-length-2 c = search needs
 
 returns : tie.Need-returns
-returns c = let t = clientAt (client (c .before .before .before .before .before .before .before .before .before .before .before .before .before .before .before .before .args .session)) (c .before .before .before .before .before .before .before .before .before .before .before .before .before .before .before .before .args .at) (c .before .before .before .before .before .before .before .before .before .before .before .before .before .before .before .before .args .store .now) (c .before .before .before .before .before .before .before .before .before .before .before .before .before .before .before .before .args .out .now) (c .before .before .before .before .before .before .before .before .before .before .before .before .before .before .before .before .args .log .now) in ap (with (c .before .before .before .before .before .before .before .before .before .before .before .before .before .before .before .before .args .store .now)) (answered-is _ 0 (c .before .before .before .before .before .before .before .before .before .init .result .written) (c .before .before .before .before .start-code .ensures) (c .before .before .put-call .ensures)) ∙ ap (startNoted t) (c .before .before .before .before .before .before .before .before .before .init .ensures) ∙ ap (λ k. rareCall t k (c .before .before .before .before .before .before .before .before .before .before .before .before .before .before .before .before .args .arg .now)) (sym (c .before .before .before .before .before .before .before .before .before .before .before .match .keys1))
+returns c =
+    let a = c .before .before .before .before .before .before .before .before .before .before .before .before .before .before .before .before .args in
+    let match = c .before .before .before .before .before .before .before .before .before .before .before .match in
+    let init = c .before .before .before .before .before .before .before .before .before .init in
+    let start-code = c .before .before .before .before .start-code in
+    let put-call = c .before .before .put-call in
+    let t = clientAt (client (a .session)) (a .at) (a .store .now) (a .out .now) (a .log .now) in
+    ap (with (a .store .now)) (answered-is _ 0 (init .result .written) (start-code .ensures) (put-call .ensures)) ∙
+    ap (startNoted t) (init .ensures .0) ∙
+    ap (λ k. rareCall t k (a .arg .now)) (sym (match .keys1))
 
 same-length-3 : tie.Need-same-length-3
 same-length-3 c = search needs
@@ -76,7 +87,22 @@ same-length-4 : tie.Need-same-length-4
 same-length-4 c = search needs
 
 returns-2 : tie.Need-returns-2
-returns-2 c = let t = clientAt (client (c .before .before .before .before .before .before .before .before .before .before .before .before .before .before .before .before .before .before .args .session)) (c .before .before .before .before .before .before .before .before .before .before .before .before .before .before .before .before .before .before .args .at) (c .before .before .before .before .before .before .before .before .before .before .before .before .before .before .before .before .before .before .args .store .now) (c .before .before .before .before .before .before .before .before .before .before .before .before .before .before .before .before .before .before .args .out .now) (c .before .before .before .before .before .before .before .before .before .before .before .before .before .before .before .before .before .before .args .log .now) in ap (with (c .before .before .before .before .before .before .before .before .before .before .before .before .before .before .before .before .before .before .args .store .now)) (answered-is _ 0 (c .before .before .before .before .before .before .before .before .before .query-pids .result .written) (c .before .before .before .before .start-code2 .ensures) (c .before .before .put-call2 .ensures)) ∙ ap (startNoted t) (c .before .before .before .before .before .before .before .before .before .query-pids .ensures) ∙ ap (λ ps. startNoted t (lent (queryPidsSays (length (c .before .before .before .before .before .before .before .before .before .before .before .before .before .before .before .before .before .before .args .out .now)) (client (c .before .before .before .before .before .before .before .before .before .before .before .before .before .before .before .before .before .before .args .session)) ps (suc (c .before .before .before .before .before .before .before .before .before .before .before .before .byte-of .result))) (c .before .before .before .before .before .before .before .before .before .before .before .before .before .before .before .before .before .before .args .out .now))) (c .before .before .before .before .before .before .before .before .before .before .before .after-first .ensures) ∙ ap (λ n. startNoted t (lent (queryPidsSays (length (c .before .before .before .before .before .before .before .before .before .before .before .before .before .before .before .before .before .before .args .out .now)) (client (c .before .before .before .before .before .before .before .before .before .before .before .before .before .before .before .before .before .before .args .session)) (drop 1 (c .before .before .before .before .before .before .before .before .before .before .before .before .before .before .before .before .before .before .args .arg .now)) (suc n)) (c .before .before .before .before .before .before .before .before .before .before .before .before .before .before .before .before .before .before .args .out .now))) (c .before .before .before .before .before .before .before .before .before .before .before .before .byte-of .ensures) ∙ ap (λ k. rareCall t k (c .before .before .before .before .before .before .before .before .before .before .before .before .before .before .before .before .before .before .args .arg .now)) (sym (c .before .before .before .before .before .before .before .before .before .before .before .before .before .match .keys2))
+returns-2 c =
+    let a = c .before .before .before .before .before .before .before .before .before .before .before .before .before .before .before .before .before .before .args in
+    let match = c .before .before .before .before .before .before .before .before .before .before .before .before .before .match in
+    let byte-of = c .before .before .before .before .before .before .before .before .before .before .before .before .byte-of in
+    let after-first = c .before .before .before .before .before .before .before .before .before .before .before .after-first in
+    let query-pids = c .before .before .before .before .before .before .before .before .before .query-pids in
+    let start-code2 = c .before .before .before .before .start-code2 in
+    let put-call2 = c .before .before .put-call2 in
+    let t = clientAt (client (a .session)) (a .at) (a .store .now) (a .out .now) (a .log .now) in
+    ap (with (a .store .now)) (answered-is _ 0 (query-pids .result .written) (start-code2 .ensures) (put-call2 .ensures)) ∙
+    ap (startNoted t) (query-pids .ensures .0) ∙
+    ap (λ ps. startNoted t (clientLent (querySays (length (a .out .now)) (client (a .session)) ps (suc (byte-of .result)) true) (a .out .now)))
+    (after-first .ensures) ∙
+    ap (λ n. startNoted t (clientLent (querySays (length (a .out .now)) (client (a .session)) (drop 1 (a .arg .now)) (suc n) true) (a .out .now)))
+    (byte-of .ensures) ∙
+    ap (λ k. rareCall t k (a .arg .now)) (sym (match .keys2))
 
 same-length-5 : tie.Need-same-length-5
 same-length-5 c = search needs
@@ -85,7 +111,16 @@ same-length-6 : tie.Need-same-length-6
 same-length-6 c = search needs
 
 returns-3 : tie.Need-returns-3
-returns-3 c = let t = clientAt (client (c .before .before .before .before .before .before .before .before .before .before .before .before .before .before .before .before .args .session)) (c .before .before .before .before .before .before .before .before .before .before .before .before .before .before .before .before .args .at) (c .before .before .before .before .before .before .before .before .before .before .before .before .before .before .before .before .args .store .now) (c .before .before .before .before .before .before .before .before .before .before .before .before .before .before .before .before .args .out .now) (c .before .before .before .before .before .before .before .before .before .before .before .before .before .before .before .before .args .log .now) in ap (with (c .before .before .before .before .before .before .before .before .before .before .before .before .before .before .before .before .args .store .now)) (answered-is _ 0 (c .before .before .before .before .before .before .before .before .before .failure .result .written) (c .before .before .before .before .piece-code .ensures) (c .before .before .put-call3 .ensures)) ∙ ap (λ r. pieceNoted t r (c .before .before .before .before .before .before .before .before .before .before .before .before .before .before .before .before .args .store .now)) (c .before .before .before .before .before .before .before .before .before .failure .ensures) ∙ ap (λ k. rareCall t k (c .before .before .before .before .before .before .before .before .before .before .before .before .before .before .before .before .args .arg .now)) (sym (c .before .before .before .before .before .before .before .before .before .before .before .match .keys3))
+returns-3 c =
+    let a = c .before .before .before .before .before .before .before .before .before .before .before .before .before .before .before .before .args in
+    let match = c .before .before .before .before .before .before .before .before .before .before .before .match in
+    let failure = c .before .before .before .before .before .before .before .before .before .failure in
+    let step-code = c .before .before .before .before .step-code in
+    let put-call3 = c .before .before .put-call3 in
+    let t = clientAt (client (a .session)) (a .at) (a .store .now) (a .out .now) (a .log .now) in
+    ap (with (a .store .now)) (answered-is _ 0 (failure .result .written) (step-code .ensures) (put-call3 .ensures)) ∙
+    ap (λ r. pieceNoted t r (a .store .now)) (failure .ensures .0) ∙
+    ap (λ k. rareCall t k (a .arg .now)) (sym (match .keys3))
 
 same-length-7 : tie.Need-same-length-7
 same-length-7 c = search needs
@@ -94,19 +129,38 @@ same-length-8 : tie.Need-same-length-8
 same-length-8 c = search needs
 
 returns-4 : tie.Need-returns-4
-returns-4 c = let t = clientAt (client (c .before .before .before .before .before .before .before .before .before .before .before .before .before .before .before .before .args .session)) (c .before .before .before .before .before .before .before .before .before .before .before .before .before .before .before .before .args .at) (c .before .before .before .before .before .before .before .before .before .before .before .before .before .before .before .before .args .store .now) (c .before .before .before .before .before .before .before .before .before .before .before .before .before .before .before .before .args .out .now) (c .before .before .before .before .before .before .before .before .before .before .before .before .before .before .before .before .args .log .now) in ap (with (c .before .before .before .before .before .before .before .before .before .before .before .before .before .before .before .before .args .store .now)) (answered-is _ 0 (c .before .before .before .before .before .before .before .before .before .failure2 .result .written) (c .before .before .before .before .piece-code2 .ensures) (c .before .before .put-call4 .ensures)) ∙ ap (λ r. pieceNoted t r (c .before .before .before .before .before .before .before .before .before .before .before .before .before .before .before .before .args .store .now)) (c .before .before .before .before .before .before .before .before .before .failure2 .ensures) ∙ ap (λ k. rareCall t k (c .before .before .before .before .before .before .before .before .before .before .before .before .before .before .before .before .args .arg .now)) (sym (c .before .before .before .before .before .before .before .before .before .before .before .match .keys4))
+returns-4 c =
+    let a = c .before .before .before .before .before .before .before .before .before .before .before .before .before .before .before .before .args in
+    let match = c .before .before .before .before .before .before .before .before .before .before .before .match in
+    let failure2 = c .before .before .before .before .before .before .before .before .before .failure2 in
+    let step-code2 = c .before .before .before .before .step-code2 in
+    let put-call4 = c .before .before .put-call4 in
+    let t = clientAt (client (a .session)) (a .at) (a .store .now) (a .out .now) (a .log .now) in
+    ap (with (a .store .now)) (answered-is _ 0 (failure2 .result .written) (step-code2 .ensures) (put-call4 .ensures)) ∙
+    ap (λ r. pieceNoted t r (a .store .now)) (failure2 .ensures .0) ∙
+    ap (λ k. rareCall t k (a .arg .now)) (sym (match .keys4))
 
 same-length-9 : tie.Need-same-length-9
 same-length-9 c = search needs
 
 returns-5 : tie.Need-returns-5
-returns-5 c = let t = clientAt (client (c .before .before .before .before .before .before .before .before .before .args .session)) (c .before .before .before .before .before .before .before .before .before .args .at) (c .before .before .before .before .before .before .before .before .before .args .store .now) (c .before .before .before .before .before .before .before .before .before .args .out .now) (c .before .before .before .before .before .before .before .before .before .args .log .now) in ap (with (c .before .before .before .before .before .before .before .before .before .args .store .now)) (noted-is _ (c .before .before .put-reply .ensures)) ∙ ap (λ k. rareCall t k (c .before .before .before .before .before .before .before .before .before .args .arg .now)) (sym (c .before .before .before .before .match .keys5))
+returns-5 c =
+    let a = c .before .before .before .before .before .before .before .before .before .args in
+    let match = c .before .before .before .before .match in
+    let put-reply = c .before .before .put-reply in
+    let t = clientAt (client (a .session)) (a .at) (a .store .now) (a .out .now) (a .log .now) in
+    ap (with (a .store .now)) (noted-is _ (put-reply .ensures)) ∙ ap (λ k. rareCall t k (a .arg .now)) (sym (match .keys5))
 
 same-length-10 : tie.Need-same-length-10
 same-length-10 c = search needs
 
 returns-6 : tie.Need-returns-6
-returns-6 c = let t = clientAt (client (c .before .before .before .before .before .before .before .before .before .args .session)) (c .before .before .before .before .before .before .before .before .before .args .at) (c .before .before .before .before .before .before .before .before .before .args .store .now) (c .before .before .before .before .before .before .before .before .before .args .out .now) (c .before .before .before .before .before .before .before .before .before .args .log .now) in ap (with (c .before .before .before .before .before .before .before .before .before .args .store .now)) (noted-is _ (c .before .before .put-state .ensures)) ∙ client-state t (c .before .before .before .before .before .before .before .before .before .args .kind) (c .before .before .before .before .before .before .before .before .before .args .arg .now) (c .before .before .before .before .match .rest)
+returns-6 c =
+    let a = c .before .before .before .before .before .before .before .before .before .args in
+    let match = c .before .before .before .before .match in
+    let put-state = c .before .before .put-state in
+    let t = clientAt (client (a .session)) (a .at) (a .store .now) (a .out .now) (a .log .now) in
+    ap (with (a .store .now)) (noted-is _ (put-state .ensures)) ∙ client-state t (a .kind) (a .arg .now) (match .rest)
 
 pub rare-spec : {M : Type 1} → statement M
 rare-spec =
@@ -121,10 +175,10 @@ rare-spec =
     start-code-requires-2
     put-call-requires-2
     failure-requires
-    piece-code-requires
+    step-code-requires
     put-call-requires-3
     failure-requires-2
-    piece-code-requires-2
+    step-code-requires-2
     put-call-requires-4
     put-reply-requires
     put-state-requires

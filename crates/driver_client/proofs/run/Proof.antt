@@ -1,18 +1,21 @@
+-- `driver_client::run` meets its contract.
 -- `driver_client::run` meets its contract. The invariant: the calls that are left, on the session as it is now, come to what the whole script comes to.
-use mathlib.Core.List.{List}
+use mathlib.Core.Bool.{false}
+use mathlib.Core.List.{List, [], _∷_}
 use mathlib.Core.Path.{_≡_, refl, sym, ap, _∙_}
 use Prim.Native.Nat.{ℕ, _+_, _-_, _≤_, _<_}
 use native.Mathlib.Omega.{arith}
 use lib.ListN.{length, take, drop, getD}
 use borrow.Author.Needs.{needs}
-use Rattle.wire.specs.Call.{lent}
-use Rattle.query.specs.Query.{countOf}
+use Rattle.client_session.specs.Call.{clientLent, ClientServed}
+use Rattle.client_session.specs.Piece.{storeAfter}
 use Rattle.client_session.specs.Session.{client}
-use Rattle.client_session.specs.Start.{queryPidSays}
-use Rattle.driver_log.specs.Script.{calls}
-use Rattle.driver_client.specs.Client.{Stored, clientCall, clientAt, startNoted, pieceNoted, finishNoted}
+use Rattle.client_session.specs.Start.{querySays}
 use Rattle.driver_log.proofs.LogLaws.{answered-is, counted-is}
 use Rattle.driver_log.proofs.ScriptLaws.{calls-turn, calls-end}
+use Rattle.driver_log.specs.Script.{calls}
+use Rattle.query.specs.Query.{countOf}
+use Rattle.driver_client.specs.Client.{Stored, clientCall, clientAt, startNoted, pieceNoted, finishNoted}
 use Rattle.driver_client.proofs.CallLaws.{with, client-rare}
 use Rattle.driver_client.proofs.run.Statement.{statement}
 use Rattle.driver_client.proofs.run.Tie as tie
@@ -52,8 +55,9 @@ module _ (k : tie.After-shared-slice-known2 Inv-loop μ-loop) where
   less = omega (arith, k .before .before .loop-test .taken)
 
   turned : (kind : ℕ) (u : Stored) → getD given from 0 ≡ kind → u ≡ clientCall here kind argument →
+      let first = head .before .before .before .before .before .args in
       calls clientCall u (drop (from + 3 + size) given) ≡
-      calls clientCall (clientAt (client (head .before .before .before .before .before .args .session)) 0 (head .before .before .before .before .before .args .store .now) (head .before .before .before .before .before .args .out .now) (head .before .before .before .before .before .args .log .now)) given
+      calls clientCall (clientAt (client (first .session)) 0 (first .store .now) (first .out .now) (first .log .now)) given
   turned kind u e w =
       calls-turn clientCall here u given from size kind (k .before .before .loop-test .taken) (k .before .argument-size .ensures) e w ∙ head .loop .inv .4
 
@@ -97,7 +101,20 @@ loop-less : tie.Need-loop-less Inv-loop μ-loop
 loop-less c = less (c .before .before .before .before .before .before .before .before .before .before .before .before .before)
 
 loop-again : tie.Need-loop-again Inv-loop μ-loop
-loop-again c = let k = c .before .before .before .before .before .before .before .before .before .before .before .before .before in (there k, search needs, search needs, search needs, turned k 1 _ (c .before .before .before .before .before .before .before .before .before .before .before .before .match .keys1) (ap (with (here k .store)) (answered-is _ 0 (c .before .before .before .before .before .before .before .before .before .command .result .written) (c .before .before .before .before .start-code .ensures) (c .before .before .put-call .ensures)) ∙ ap (startNoted (here k)) (c .before .before .before .before .before .before .before .before .before .command .ensures)))
+loop-again c =
+    let k = c .before .before .before .before .before .before .before .before .before .before .before .before .before in
+    let match = c .before .before .before .before .before .before .before .before .before .before .before .before .match in
+    let command = c .before .before .before .before .before .before .before .before .before .command in
+    let start-code = c .before .before .before .before .start-code in
+    let put-call = c .before .before .put-call in (
+      there k,
+      search needs,
+      search needs,
+      search needs,
+      turned k 1 _ (match .keys1)
+          (ap (with (here k .store)) (answered-is _ 0 (command .result .written) (start-code .ensures) (put-call .ensures)) ∙
+          ap (startNoted (here k)) (command .ensures .0)),
+    )
 
 sub-count-given : tie.Need-sub-count-given Inv-loop μ-loop
 sub-count-given c = search needs
@@ -136,7 +153,31 @@ loop-less-2 : tie.Need-loop-less-2 Inv-loop μ-loop
 loop-less-2 c = less (c .before .before .before .before .before .before .before .before .before .before .before .before .before .before .before .before)
 
 loop-again-2 : tie.Need-loop-again-2 Inv-loop μ-loop
-loop-again-2 c = let k = c .before .before .before .before .before .before .before .before .before .before .before .before .before .before .before .before in (there k, search needs, search needs, search needs, turned k 2 _ (c .before .before .before .before .before .before .before .before .before .before .before .before .before .before .before .match .keys2) (ap (with (here k .store)) (answered-is _ 0 (c .before .before .before .before .before .before .before .before .before .query-pid .result .written) (c .before .before .before .before .start-code2 .ensures) (c .before .before .put-call2 .ensures)) ∙ ap (startNoted (here k)) (c .before .before .before .before .before .before .before .before .before .query-pid .ensures) ∙ ap (λ b. startNoted (here k) (lent (queryPidSays (length (here k .turn .out)) (here k .turn .session) b (countOf (c .before .before .before .before .before .before .before .before .before .before .before .before .before .count-given .result))) (here k .turn .out))) (c .before .before .before .before .before .before .before .before .before .before .before .byte-of .ensures) ∙ ap (λ n. startNoted (here k) (lent (queryPidSays (length (here k .turn .out)) (here k .turn .session) (getD (argument k) 0 0) n) (here k .turn .out))) (c .before .before .before .before .before .before .before .before .before .before .before .before .before .count-given .ensures)))
+loop-again-2 c =
+    let k = c .before .before .before .before .before .before .before .before .before .before .before .before .before .before .before .before in
+    let match = c .before .before .before .before .before .before .before .before .before .before .before .before .before .before .before .match in
+    let count-given = c .before .before .before .before .before .before .before .before .before .before .before .before .before .count-given in
+    let byte-of = c .before .before .before .before .before .before .before .before .before .before .before .byte-of in
+    let query-pid = c .before .before .before .before .before .before .before .before .before .query-pid in
+    let start-code2 = c .before .before .before .before .start-code2 in
+    let put-call2 = c .before .before .put-call2 in (
+      there k,
+      search needs,
+      search needs,
+      search needs,
+      turned k 2 _ (match .keys2)
+          (ap (with (here k .store)) (answered-is _ 0 (query-pid .result .written) (start-code2 .ensures) (put-call2 .ensures)) ∙
+          ap (startNoted (here k)) (query-pid .ensures .0) ∙
+          ap
+          (λ b.
+          startNoted (here k)
+          (clientLent (querySays (length (here k .turn .out)) (here k .turn .session) (b ∷ []) (countOf (count-given .result)) false) (here k .turn .out)))
+          (byte-of .ensures) ∙
+          ap
+          (λ n.
+          startNoted (here k) (clientLent (querySays (length (here k .turn .out)) (here k .turn .session) (getD (argument k) 0 0 ∷ []) n false) (here k .turn .out)))
+          (count-given .ensures)),
+    )
 
 sub-query-pids : tie.Need-sub-query-pids Inv-loop μ-loop
 sub-query-pids c = search needs
@@ -160,7 +201,20 @@ loop-less-3 : tie.Need-loop-less-3 Inv-loop μ-loop
 loop-less-3 c = less (c .before .before .before .before .before .before .before .before .before .before .before .before .before)
 
 loop-again-3 : tie.Need-loop-again-3 Inv-loop μ-loop
-loop-again-3 c = let k = c .before .before .before .before .before .before .before .before .before .before .before .before .before in (there k, search needs, search needs, search needs, turned k 3 _ (c .before .before .before .before .before .before .before .before .before .before .before .before .match .keys3) (ap (with (here k .store)) (answered-is _ 0 (c .before .before .before .before .before .before .before .before .before .query-pids .result .written) (c .before .before .before .before .start-code3 .ensures) (c .before .before .put-call3 .ensures)) ∙ ap (startNoted (here k)) (c .before .before .before .before .before .before .before .before .before .query-pids .ensures)))
+loop-again-3 c =
+    let k = c .before .before .before .before .before .before .before .before .before .before .before .before .before in
+    let match = c .before .before .before .before .before .before .before .before .before .before .before .before .match in
+    let query-pids = c .before .before .before .before .before .before .before .before .before .query-pids in
+    let start-code3 = c .before .before .before .before .start-code3 in
+    let put-call3 = c .before .before .put-call3 in (
+      there k,
+      search needs,
+      search needs,
+      search needs,
+      turned k 3 _ (match .keys3)
+          (ap (with (here k .store)) (answered-is _ 0 (query-pids .result .written) (start-code3 .ensures) (put-call3 .ensures)) ∙
+          ap (startNoted (here k)) (query-pids .ensures .0)),
+    )
 
 sub-piece : tie.Need-sub-piece Inv-loop μ-loop
 sub-piece c = search needs
@@ -174,8 +228,8 @@ part-piece-end c = search needs
 piece-requires : tie.Need-piece-requires Inv-loop μ-loop
 piece-requires c κs = search needs
 
-piece-code-requires : tie.Need-piece-code-requires Inv-loop μ-loop
-piece-code-requires c κs = search needs
+step-code-requires : tie.Need-step-code-requires Inv-loop μ-loop
+step-code-requires c κs = search needs
 
 put-call-requires-4 : tie.Need-put-call-requires-4 Inv-loop μ-loop
 put-call-requires-4 c κs = search needs
@@ -184,16 +238,25 @@ loop-less-4 : tie.Need-loop-less-4 Inv-loop μ-loop
 loop-less-4 c = less (c .before .before .before .before .before .before .before .before .before .before .before .before .before .before .before .before)
 
 loop-again-4 : tie.Need-loop-again-4 Inv-loop μ-loop
-loop-again-4 c = let k = c .before .before .before .before .before .before .before .before .before .before .before .before .before .before .before .before in (there k, search needs, search needs, search needs, turned k 4 _ (c .before .before .before .before .before .before .before .before .before .before .before .before .before .before .before .match .keys4) (ap (with _) (answered-is _ 0 (c .before .before .before .before .before .before .before .before .before .before .before .piece .result .written) (c .before .before .before .before .piece-code .ensures) (c .before .before .put-call4 .ensures)) ∙ ap (λ r. pieceNoted (here k) (r .served) (r .store)) (c .before .before .before .before .before .before .before .before .before .before .before .piece .ensures)))
+loop-again-4 c =
+    let k = c .before .before .before .before .before .before .before .before .before .before .before .before .before .before .before .before in
+    let match = c .before .before .before .before .before .before .before .before .before .before .before .before .before .before .before .match in
+    let piece = c .before .before .before .before .before .before .before .before .before .before .before .piece in
+    let step-code = c .before .before .before .before .step-code in
+    let put-call4 = c .before .before .put-call4 in
+    let e = piece .ensures .0 in
+    let s = piece .ensures .1 .0 ∙ ap (λ (x : ClientServed). storeAfter (here k .turn .session) (x .answer) (argument k) (here k .store)) e in
+    let noted = ap (with _) (answered-is _ 0 (piece .result .written) (step-code .ensures) (put-call4 .ensures)) in
+    (there k, search needs, search needs, search needs, turned k 4 _ (match .keys4) (noted ∙ (λ i. pieceNoted (here k) (e i) (s i))))
 
 finish-requires : tie.Need-finish-requires Inv-loop μ-loop
 finish-requires c κs = search needs
 
-finish-code-requires : tie.Need-finish-code-requires Inv-loop μ-loop
-finish-code-requires c κs = search needs
+step-code-requires-2 : tie.Need-step-code-requires-2 Inv-loop μ-loop
+step-code-requires-2 c κs = search needs
 
-finish-count-requires : tie.Need-finish-count-requires Inv-loop μ-loop
-finish-count-requires c κs = search needs
+value-count-requires : tie.Need-value-count-requires Inv-loop μ-loop
+value-count-requires c κs = search needs
 
 put-call-requires-5 : tie.Need-put-call-requires-5 Inv-loop μ-loop
 put-call-requires-5 c κs = search needs
@@ -202,7 +265,21 @@ loop-less-5 : tie.Need-loop-less-5 Inv-loop μ-loop
 loop-less-5 c = less (c .before .before .before .before .before .before .before .before .before .before .before .before .before .before)
 
 loop-again-5 : tie.Need-loop-again-5 Inv-loop μ-loop
-loop-again-5 c = let k = c .before .before .before .before .before .before .before .before .before .before .before .before .before .before in (there k, search needs, search needs, search needs, turned k 5 _ (c .before .before .before .before .before .before .before .before .before .before .before .before .before .match .keys5) (ap (with (here k .store)) (counted-is _ (c .before .before .before .before .before .before .before .before .before .before .finish .result .written) (c .before .before .before .before .before .finish-code .ensures) (c .before .before .before .before .finish-count .ensures) (c .before .before .put-call5 .ensures)) ∙ ap (finishNoted (here k)) (c .before .before .before .before .before .before .before .before .before .before .finish .ensures)))
+loop-again-5 c =
+    let k = c .before .before .before .before .before .before .before .before .before .before .before .before .before .before in
+    let match = c .before .before .before .before .before .before .before .before .before .before .before .before .before .match in
+    let finish = c .before .before .before .before .before .before .before .before .before .before .finish in
+    let step-code2 = c .before .before .before .before .before .step-code2 in
+    let value-count = c .before .before .before .before .value-count in
+    let put-call5 = c .before .before .put-call5 in (
+      there k,
+      search needs,
+      search needs,
+      search needs,
+      turned k 5 _ (match .keys5)
+          (ap (with (here k .store)) (counted-is _ (finish .result .written) (step-code2 .ensures) (value-count .ensures) (put-call5 .ensures)) ∙
+          ap (finishNoted (here k)) (finish .ensures .0)),
+    )
 
 sub-rare : tie.Need-sub-rare Inv-loop μ-loop
 sub-rare c = search needs
@@ -217,10 +294,19 @@ rare-requires : tie.Need-rare-requires Inv-loop μ-loop
 rare-requires c κs = search needs
 
 loop-less-6 : tie.Need-loop-less-6 Inv-loop μ-loop
-loop-less-6 c = less (c .before .before .before .before .before .before .before .before .before .before .before)
+loop-less-6 c = let start = c .before .before .before .before .before .before .before .before .before .before .before in less start
 
 loop-again-6 : tie.Need-loop-again-6 Inv-loop μ-loop
-loop-again-6 c = let k = c .before .before .before .before .before .before .before .before .before .before .before in (there k, search needs, search needs, search needs, turned k (getD (given k) (from k) 0) _ refl (c .before .before .before .before .before .rare .ensures ∙ client-rare (here k) (getD (given k) (from k) 0) (argument k) (c .before .before .before .before .before .before .before .before .before .before .match .rest)))
+loop-again-6 c =
+    let k = c .before .before .before .before .before .before .before .before .before .before .before in
+    let match = c .before .before .before .before .before .before .before .before .before .before .match in
+    let rare = c .before .before .before .before .before .rare in (
+      there k,
+      search needs,
+      search needs,
+      search needs,
+      turned k (getD (given k) (from k) 0) _ refl (rare .ensures ∙ client-rare (here k) (getD (given k) (from k) 0) (argument k) (match .rest)),
+    )
 
 same-length : tie.Need-same-length Inv-loop μ-loop
 same-length c = search needs
@@ -232,7 +318,13 @@ same-length-3 : tie.Need-same-length-3 Inv-loop μ-loop
 same-length-3 c = search needs
 
 returns : tie.Need-returns Inv-loop μ-loop
-returns c = sym (calls-end clientCall (clientAt (client (c .before .loop .session)) (c .before .loop .at) (c .before .loop .store) (c .before .loop .out) (c .before .loop .log)) (c .before .before .before .before .before .before .args .script .now) (c .before .loop .from) (c .loop-test .left)) ∙ c .before .loop .inv .4
+returns c =
+    let a = c .before .before .before .before .before .before .args in
+    sym
+    (calls-end clientCall
+    (clientAt (client (c .before .loop .session)) (c .before .loop .at) (c .before .loop .store) (c .before .loop .out) (c .before .loop .log)) (a .script .now)
+    (c .before .loop .from) (c .loop-test .left)) ∙
+    c .before .loop .inv .4
 
 pub run-spec : {M : Type 1} → statement M
 run-spec =
@@ -279,13 +371,13 @@ run-spec =
     part-piece-start
     part-piece-end
     piece-requires
-    piece-code-requires
+    step-code-requires
     put-call-requires-4
     loop-less-4
     loop-again-4
     finish-requires
-    finish-code-requires
-    finish-count-requires
+    step-code-requires-2
+    value-count-requires
     put-call-requires-5
     loop-less-5
     loop-again-5

@@ -5,9 +5,9 @@ use native.Mathlib.Nat.{sub-zero}
 use native.Mathlib.Omega.{arith}
 use lib.ListN.{length}
 use borrow.Author.Needs.{needs}
+use Rattle.driver_log.proofs.ScriptLaws.{rounds-turn, rounds-end}
 use Rattle.driver_log.specs.Script.{calls, rounds}
 use Rattle.driver_client.specs.Client.{clientCall, clientTurn, clientAt, clientRun, storedOf}
-use Rattle.driver_log.proofs.ScriptLaws.{rounds-turn, rounds-end}
 use Rattle.driver_client.proofs.run_rounds.Statement.{statement}
 use Rattle.driver_client.proofs.run_rounds.Tie as tie
 
@@ -32,13 +32,33 @@ run-requires-2 : tie.Need-run-requires-2 Inv-loop μ-loop
 run-requires-2 c κs = search needs
 
 add-round : tie.Need-add-round Inv-loop μ-loop
-add-round c = omega (arith, c .before .before .before .before .before .before .before .before .before .before .before .before .before .before .before .before .before .before .before .before .before .before .before .before .before .before .before .before .fits)
+add-round c =
+    let fits =
+    c .before .before .before .before .before .before .before .before .before .before .before .before .before .before .before .before .before .before .before
+    .before .before .before .before .before .before .before .before .before .fits in
+    omega (arith, fits)
 
 loop-less : tie.Need-loop-less Inv-loop μ-loop
-loop-less c = omega (arith, c .before .before .before .before .before .before .before .before .before .before .loop-test .taken)
+loop-less c =
+    let loop-test = c .before .before .before .before .before .before .before .before .before .before .loop-test in
+    omega (arith, loop-test .taken)
 
 loop-again : tie.Need-loop-again Inv-loop μ-loop
-loop-again c = (omega (arith, c .before .before .before .before .before .before .before .before .before .before .loop-test .taken), search needs, search needs, search needs, ap (rounds (clientRun (c .before .before .before .before .before .before .before .before .before .before .before .before .before .before .before .before .before .before .before .before .before .before .before .before .before .before .before .before .args .again .now)) (c .before .before .before .before .before .before .before .before .before .before .before .before .before .before .before .before .before .before .before .before .before .before .before .before .before .before .before .before .args .times - (c .before .before .before .before .before .before .before .before .before .before .before .loop .round + 1))) (c .before .before .before .before .before .before .run2 .ensures) ∙ rounds-turn (clientRun (c .before .before .before .before .before .before .before .before .before .before .before .before .before .before .before .before .before .before .before .before .before .before .before .before .before .before .before .before .args .again .now)) (c .before .before .before .before .before .before .before .before .before .before .before .before .before .before .before .before .before .before .before .before .before .before .before .before .before .before .before .before .args .times) (c .before .before .before .before .before .before .before .before .before .before .before .loop .round) (clientTurn (c .before .before .before .before .before .before .before .before .before .before .before .loop .turn) (c .before .before .before .before .before .before .before .before .before .before .before .loop .store) (c .before .before .before .before .before .before .before .before .before .before .before .loop .out) (c .before .before .before .before .before .before .before .before .before .before .before .loop .log)) (c .before .before .before .before .before .before .before .before .before .before .loop-test .taken) ∙ c .before .before .before .before .before .before .before .before .before .before .before .loop .inv .4)
+loop-again c =
+    let a =
+    c .before .before .before .before .before .before .before .before .before .before .before .before .before .before .before .before .before .before .before
+    .before .before .before .before .before .before .before .before .before .args in
+    let loop = c .before .before .before .before .before .before .before .before .before .before .before .loop in
+    let loop-test = c .before .before .before .before .before .before .before .before .before .before .loop-test in
+    let run2 = c .before .before .before .before .before .before .run2 in (
+      omega (arith, loop-test .taken),
+      search needs,
+      search needs,
+      search needs,
+      ap (rounds (clientRun (a .again .now)) (a .times - (loop .round + 1))) (run2 .ensures) ∙
+          rounds-turn (clientRun (a .again .now)) (a .times) (loop .round) (clientTurn (loop .turn) (loop .store) (loop .out) (loop .log)) (loop-test .taken) ∙
+          loop .inv .4,
+    )
 
 same-length : tie.Need-same-length Inv-loop μ-loop
 same-length c = search needs
@@ -50,7 +70,17 @@ same-length-3 : tie.Need-same-length-3 Inv-loop μ-loop
 same-length-3 c = search needs
 
 returns : tie.Need-returns Inv-loop μ-loop
-returns c = ap storedOf (sym (rounds-end (clientRun (c .before .before .before .before .before .before .before .before .before .before .before .before .before .before .before .before .before .before .args .again .now)) (c .before .before .before .before .before .before .before .before .before .before .before .before .before .before .before .before .before .before .args .times) (c .before .loop .round) (clientTurn (c .before .loop .turn) (c .before .loop .store) (c .before .loop .out) (c .before .loop .log)) (c .loop-test .left)) ∙ c .before .loop .inv .4 ∙ ap (rounds (clientRun (c .before .before .before .before .before .before .before .before .before .before .before .before .before .before .before .before .before .before .args .again .now)) (c .before .before .before .before .before .before .before .before .before .before .before .before .before .before .before .before .before .before .args .times)) (c .before .before .before .before .before .before .before .before .run .ensures ∙ ap (λ s. calls clientCall (clientAt s 0 (c .before .before .before .before .before .before .before .before .before .before .before .before .before .before .before .before .before .before .args .store .now) (c .before .before .before .before .before .before .before .before .before .before .before .before .before .before .before .before .before .before .args .out .now) (c .before .before .before .before .before .before .before .before .before .before .before .before .before .before .before .before .before .before .args .log .now)) (c .before .before .before .before .before .before .before .before .before .before .before .before .before .before .before .before .before .before .args .script .now)) (c .before .before .before .before .before .before .before .before .before .before .before .before .new .ensures)))
+returns c =
+    let a = c .before .before .before .before .before .before .before .before .before .before .before .before .before .before .before .before .before .before .args in
+    let new = c .before .before .before .before .before .before .before .before .before .before .before .before .new in
+    let run = c .before .before .before .before .before .before .before .before .run in
+    ap storedOf
+    (sym
+    (rounds-end (clientRun (a .again .now)) (a .times) (c .before .loop .round)
+    (clientTurn (c .before .loop .turn) (c .before .loop .store) (c .before .loop .out) (c .before .loop .log)) (c .loop-test .left)) ∙
+    c .before .loop .inv .4 ∙
+    ap (rounds (clientRun (a .again .now)) (a .times))
+    (run .ensures ∙ ap (λ s. calls clientCall (clientAt s 0 (a .store .now) (a .out .now) (a .log .now)) (a .script .now)) (new .ensures)))
 
 pub run-rounds-spec : {M : Type 1} → statement M
 run-rounds-spec =

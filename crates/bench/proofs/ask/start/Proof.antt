@@ -21,7 +21,7 @@ returns : tie.Need-returns
 returns c = let a = c .before .before .before .before .before .before .before .before .before .args in
     one-started (client (a .session)) (a .count) (a .out .now) (a .pids .now) _ (c .before .before .before .before .before .before .ecu-count .ensures)
     (c .before .before .before .before .before .before .before .before .before .pre .1) (c .before .before .query-pid .result) (c .before .before .query-pid .last .1 .1 .1 .0)
-    (c .before .before .before .before .before .if1 .taken) (c .before .before .query-pid .ensures)
+    (c .before .before .before .before .before .if1 .taken) (c .before .before .query-pid .ensures .0)
 
 query-pids-requires : tie.Need-query-pids-requires
 query-pids-requires c κs = search needs
@@ -33,7 +33,7 @@ returns-2 : tie.Need-returns-2
 returns-2 c = let a = c .before .before .before .before .before .before .before .before .args in
     several-started (client (a .session)) (a .count) (a .out .now) (a .pids .now) _ (c .before .before .before .before .before .ecu-count .ensures)
     (c .before .before .before .before .before .before .before .before .pre .1) (c .before .before .query-pids .result) (c .before .before .query-pids .last .1 .1 .1 .0)
-    (c .before .before .before .before .if1 .left) (c .before .before .query-pids .ensures)
+    (c .before .before .before .before .if1 .left) (c .before .before .query-pids .ensures .0)
 
 pub start-spec : {M : Type 1} → statement M
 start-spec =

@@ -1,17 +1,30 @@
 -- `client_session::ClientSession::init` meets its contract.
-use mathlib.Core.Path.{refl, sym, ap, _∙_}
+use mathlib.Core.Path.{refl}
 use lib.ListN.{length}
-use Rattle.client_session.specs.Session.{client}
-use Rattle.client_session.specs.Start.{startNumber, startAnswer}
-use Rattle.client_session.proofs.StartLaws.{init-goes, init-refused, init-fits}
-use Rattle.client_session.proofs.StepLaws.{does-lent, does-as, does-starts, unstarted-lent, by-result}
-use Rattle.client_session.proofs.UnderLaws.{not-sent}
 use borrow.Author.Needs.{needs}
+use Rattle.client_session.specs.Session.{client}
+use Rattle.client_session.proofs.StartLaws.{init-fits}
+use Rattle.client_session.proofs.StepLaws.{does-lent, does-as, does-sends, told-refused, told-result}
 use Rattle.client_session.proofs.ClientSession.init.Statement.{statement}
 use Rattle.client_session.proofs.ClientSession.init.Tie as tie
 
-start-answer-requires : tie.Need-start-answer-requires
-start-answer-requires c κs = search needs
+init-verdict-requires : tie.Need-init-verdict-requires
+init-verdict-requires c κs = search needs
+
+enum-known-verdict : tie.Need-enum-known-verdict
+enum-known-verdict c = search needs
+
+refused-requires : tie.Need-refused-requires
+refused-requires c κs = search needs
+
+returns : tie.Need-returns
+returns c =
+    let a = c .before .before .before .before .before .before .before .args in
+    let init-verdict = c .before .before .before .before .init-verdict in
+    let verdict = c .before .before .verdict in
+    let k = client (a .self) in
+    let v = init-verdict .ensures .0 k refl in
+    rw (c .refused .ensures, v, verdict .given .1) (refl, told-refused (rw (verdict .given .1) at (init-verdict .ensures .1)))
 
 enum-told : tie.Need-enum-told
 enum-told c = search needs
@@ -22,38 +35,34 @@ slice-aggregate-put c = search needs
 put-requires : tie.Need-put-requires
 put-requires c κs = search needs
 
-starts-requires : tie.Need-starts-requires
-starts-requires c κs = search needs
+sends-requires : tie.Need-sends-requires
+sends-requires c κs = search needs
 
 same-length : tie.Need-same-length
 same-length c = search needs
 
-returns : tie.Need-returns
-returns c = let k = client (c .before .before .before .before .before .before .before .before .before .before .before .args .self) in
-    let room = length (c .before .before .before .before .before .before .before .before .before .before .before .args .out .now) in
-    let z = by-result tt tt (startNumber k 0 room) (sym (ap startAnswer (c .before .before .before .before .before .before .enum-told .given .1)) ∙ c .before .before .before .before .before .before .before .before .start-answer .ensures k refl) in
-    does-lent (does-as (init-goes room k z) (does-starts (c .starts .ensures) (c .before .before .before .put .ensures))) (init-fits room k)
-
-unstarted-requires : tie.Need-unstarted-requires
-unstarted-requires c κs = search needs
-
 returns-2 : tie.Need-returns-2
-returns-2 c = let k = client (c .before .before .before .before .before .args .self) in
-    let room = length (c .before .before .before .before .before .args .out .now) in
-    let n = startNumber k 0 room in
-    let (z, e) = not-sent (c .before .before .start-answer .result) n (c .before .match .keys2) (c .before .before .start-answer .ensures k refl) in
-    rw (init-refused room k n refl z) (unstarted-lent (c .unstarted .ensures) e)
+returns-2 c =
+    let a = c .before .before .before .before .before .before .before .before .before .before .before .args in
+    let init-verdict = c .before .before .before .before .before .before .before .before .init-verdict in
+    let enum-told = c .before .before .before .before .before .before .enum-told in
+    let put = c .before .before .before .put in
+    let k = client (a .self) in
+    let v = rw (enum-told .given .1) at (init-verdict .ensures .0 k refl) in
+    let does = does-sends (c .sends .ensures) refl (put .ensures) in
+    (does-lent (does-as v does) (init-fits (length (a .out .now)) k), told-result (c .sends .result) (does .answer))
 
 pub init-spec : {M : Type 1} → statement M
 init-spec =
     tie.close
     (tie.spec
-    start-answer-requires
+    init-verdict-requires
+    enum-known-verdict
+    refused-requires
+    returns
     enum-told
     slice-aggregate-put
     put-requires
-    starts-requires
+    sends-requires
     same-length
-    returns
-    unstarted-requires
     returns-2)

@@ -1,41 +1,38 @@
 -- `client_session::ClientSession::start_query` meets its contract.
-use mathlib.Core.Path.{_≡_, refl, sym, ap, _∙_}
-use Prim.Native.Nat.{ℕ}
-use native.Mathlib.Omega.{arith}
+use mathlib.Core.Path.{refl, sym, ap, _∙_}
 use lib.ListN.{length}
-use Rattle.query.specs.Query.{countOf}
-use Rattle.query.proofs.QueryLaws.{query-short}
-use Rattle.client_session.specs.Session.{Query, Client, client}
-use Rattle.client_session.specs.Start.{startNumber, startAnswer, newQuery, pidsNumber, queryStarted}
-use Rattle.client_session.proofs.StartLaws.{start-own-none, pids-six, query-refused, query-fits}
-use Rattle.client_session.proofs.StepLaws.{does-lent, does-as, unstarted-lent, by-result}
-use Rattle.client_session.proofs.UnderLaws.{not-sent}
 use borrow.Author.Needs.{needs}
+use Rattle.query.specs.Query.{countOf}
+use Rattle.client_session.specs.Session.{Client, client}
+use Rattle.client_session.specs.Start.{sendQuery}
+use Rattle.client_session.proofs.StartLaws.{query-fits, query-sent}
+use Rattle.client_session.proofs.StepLaws.{does-lent, does-as, told-refused, told-result}
 use Rattle.client_session.proofs.ClientSession.start_query.Statement.{statement}
 use Rattle.client_session.proofs.ClientSession.start_query.Tie as tie
 
--- What the call is given.
-module _ (s : tie.Start) where
-  abbrev query : Query
-  query = newQuery (s .args .pids .now) (countOf (s .args .count)) (s .args .several)
+query-verdict-requires : tie.Need-query-verdict-requires
+query-verdict-requires c κs = search needs
 
-  abbrev number : ℕ
-  number = startNumber (client (s .args .self)) (pidsNumber (s .args .pids .now)) (length (s .args .out .now))
+enum-known-verdict : tie.Need-enum-known-verdict
+enum-known-verdict c = search needs
 
--- It gets no number.
-none : (c : tie.After-enum-told) → number (c .before .before .before .before .before .before) ≡ 0
-none c =
-    let k = client (c .before .before .before .before .before .before .args .self) in
-    by-result tt tt (number (c .before .before .before .before .before .before)) (sym (ap startAnswer (c .enum-told .given .1)) ∙ c .before .before .query-answer .ensures k refl)
+refused-requires : tie.Need-refused-requires
+refused-requires c κs = search needs
 
-query-answer-requires : tie.Need-query-answer-requires
-query-answer-requires c κs = search needs
+returns : tie.Need-returns
+returns c =
+    let a = c .before .before .before .before .before .before .before .before .args in
+    let query-verdict = c .before .before .before .before .query-verdict in
+    let verdict = c .before .before .verdict in
+    let k = client (a .self) in
+    let v = query-verdict .ensures .0 k (countOf (a .count)) (a .several) refl in
+    rw (c .refused .ensures, v, verdict .given .1) (refl, told-refused (rw (verdict .given .1) at (query-verdict .ensures .1 .0)))
 
 enum-told : tie.Need-enum-told
 enum-told c = search needs
 
 with-query-requires : tie.Need-with-query-requires
-with-query-requires c κs = let s = c .before .before .before .before .before .before .args in pids-six (s .pids .now) (start-own-none (client (s .self)) (pidsNumber (s .pids .now)) (length (s .out .now)) (none c))
+with-query-requires c κs = let query-verdict = c .before .before .query-verdict in query-verdict .ensures .1 .1 (c .enum-told .given .1)
 
 ask-requires : tie.Need-ask-requires
 ask-requires c κs = search needs
@@ -43,33 +40,32 @@ ask-requires c κs = search needs
 same-length : tie.Need-same-length
 same-length c = search needs
 
-returns : tie.Need-returns
-returns c = let s = c .before .before .before .before .before .before .before .before .before .before .before .args in
-    let k = client (s .self) in
-    let p = s .pids .now in
-    let q = query (c .before .before .before .before .before .before .before .before .before .before .before) in
-    let given = ap (λ (x : Client). queryStarted 0 x (x .query)) (c .before .before .before .before .with-query .ensures) in
-    does-lent (does-as (ap (λ n. queryStarted n k q) (none (c .before .before .before .before .before)) ∙ sym given) (c .before .before .ask .ensures))
-    (query-fits (length (s .out .now)) k (pidsNumber p) q (λ z. omega (arith, query-short p (countOf (s .count)) (pids-six p z))))
-
-unstarted-requires : tie.Need-unstarted-requires
-unstarted-requires c κs = search needs
-
 returns-2 : tie.Need-returns-2
-returns-2 c = let k = client (c .before .before .before .before .before .before .args .self) in
-    let n = number (c .before .before .before .before .before .before) in
-    let (z, e) = not-sent (c .before .before .query-answer .result) n (c .before .match .keys2) (c .before .before .query-answer .ensures k refl) in
-    rw (query-refused k (query (c .before .before .before .before .before .before)) n n refl z) (unstarted-lent (c .unstarted .ensures) e)
+returns-2 c =
+    let a = c .before .before .before .before .before .before .before .before .before .before .before .args in
+    let query-verdict = c .before .before .before .before .before .before .before .query-verdict in
+    let enum-told = c .before .before .before .before .before .enum-told in
+    let with-query = c .before .before .before .before .with-query in
+    let ask = c .before .before .ask in
+    let k = client (a .self) in
+    let v = query-verdict .ensures .0 k (countOf (a .count)) (a .several) refl in
+    let d = rw (enum-told .given .1) at v in
+    let own = client (with-query .result) in
+    let given = ap (λ (x : Client). sendQuery x (x .query)) (with-query .ensures) in (
+      does-lent (does-as (d ∙ sym given) (ask .ensures)) (query-fits (length (a .out .now)) k (a .pids .now) (countOf (a .count)) (a .several)),
+      told-result (ask .result) (ask .ensures .answer ∙ query-sent own (own .query)),
+    )
 
 pub start-query-spec : {M : Type 1} → statement M
 start-query-spec =
     tie.close
     (tie.spec
-    query-answer-requires
+    query-verdict-requires
+    enum-known-verdict
+    refused-requires
+    returns
     enum-told
     with-query-requires
     ask-requires
     same-length
-    returns
-    unstarted-requires
     returns-2)
