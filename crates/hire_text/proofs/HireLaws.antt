@@ -79,8 +79,8 @@ module _ (s buffer left : List ℕ) (r : BenchRun) (e : recorded r left ≡ runL
     unfolding hireText
     text-put lines q = rw (← says) (put-then (lines parts (run-parts true [] (length buffer) s) parts-stand) (rw stop-line at q))
 
-    pub all-written : {out out₁ out₂ : List ℕ} {n m : ℕ} → size ≤ length out → r .written ≤ (length out - size) / 3 → Lines out n out₁ → Put out₁ n (take size line) m out₂ →
-        hireWritten (Written m) out₂ ≡ putWhole out 0 (hireText (length buffer) s)
+    pub all-written : {out out₁ out₂ : List ℕ} {n m : ℕ} → size ≤ length out → r .written ≤ (length out - size) / 3 → Lines out n out₁ →
+        Put out₁ n (take size line) m out₂ → hireWritten (Written m) out₂ ≡ putWhole out 0 (hireText (length buffer) s)
     all-written h k lines q = whole-stored (omega arith) (omega (arith, text-size, whole-line)) (text-put lines q)
 
 -- what a text that was written tells the caller: it is inside the buffer, whose length is as it was

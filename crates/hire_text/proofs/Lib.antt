@@ -1,5 +1,5 @@
 mod LineLaws
 mod PartLaws
 mod StandLaws
-mod HireLaws
+pub mod HireLaws
 mod Worked

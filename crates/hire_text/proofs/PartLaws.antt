@@ -57,8 +57,8 @@ left-start {s} {at} {v} {n} w = record {
 }
 
 -- a value and then the others, of those that are left
-next-value : (left : ℕ) (s : List ℕ) (v : Value) (t : List ℕ) (vs : List Value) (rest : List ℕ) → 0 < left → valueFormat .read s ≡ got v t → readRow valueFormat left s ≡ got vs rest →
-    (ws : List Value) × (readRow valueFormat (left - 1) t ≡ got ws rest)
+next-value : (left : ℕ) (s : List ℕ) (v : Value) (t : List ℕ) (vs : List Value) (rest : List ℕ) → 0 < left → valueFormat .read s ≡ got v t →
+    readRow valueFormat left s ≡ got vs rest → (ws : List Value) × (readRow valueFormat (left - 1) t ≡ got ws rest)
 next-value zero s v t vs rest h e q = absurd (omega arith)
 next-value (suc k) s v t vs rest h e q =
     let (ws, u, g, q₁) = then-got (readRow valueFormat k t) _ vs rest (rw e at q) in
@@ -130,7 +130,8 @@ module _ (s : List ℕ) (start : ℕ) {out left : List ℕ} {at r : ℕ} where
   last-line (q ∷ qs) a e p h = absurd (omega (arith, part-some q (a .0), ap length e, length-append q (joined qs), length-drop start s))
 
 module _ {s out left : List ℕ} {start at r : ℕ} (k : LinesLeft s start out at r left) where
-  pub lines-next : {end a₁ : ℕ} {o₁ : List ℕ} → start < length s → PartEnd s start end → Put out at (hexLine (take (end - start) (drop start s))) a₁ o₁ → LinesLeft s end o₁ a₁ r left
+  pub lines-next : {end a₁ : ℕ} {o₁ : List ℕ} → start < length s → PartEnd s start end →
+      Put out at (hexLine (take (end - start) (drop start s))) a₁ o₁ → LinesLeft s end o₁ a₁ r left
   lines-next h w l = first-line s start (k .parts) (k .are) (k .bytes) (k .lines) h w l
 
   pub lines-end : length s ≤ start → (r ≡ at) × (left ≡ out)

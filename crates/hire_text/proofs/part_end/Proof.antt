@@ -40,7 +40,9 @@ loop-less : tie.Need-loop-less Inv-loop μ-loop
 loop-less c = search needs
 
 loop-again : tie.Need-loop-again Inv-loop μ-loop
-loop-again c = left-value (c .before .before .before .before .before .loop .inv) (c .before .before .before .before .loop-test .taken) (step-value _ _ (c .before .before .before .step .ensures) (c .before .next .given .1))
+loop-again c =
+    let here = c .before .before .before in
+    left-value (here .before .before .loop .inv) (here .before .loop-test .taken) (step-value _ _ (here .step .ensures) (c .before .next .given .1))
 
 enum-told-2 : tie.Need-enum-told-2 Inv-loop μ-loop
 enum-told-2 c = search needs

@@ -13,7 +13,9 @@ use Rattle.hire_text.proofs.put_hex_line.Statement.{statement}
 use Rattle.hire_text.proofs.put_hex_line.Tie as tie
 
 abbrev Inv-loop : tie.InvT-loop
-Inv-loop out₀ at bytes at₀ i₀ out at' i = (i ≤ length bytes) × (length out ≡ length out₀) × Put out at' (hexLine (drop i bytes)) (at + min (length (hexLine bytes)) (length out₀ - at)) (sets out₀ at (hexLine bytes))
+Inv-loop out₀ at bytes at₀ i₀ out at' i =
+    let text = hexLine bytes in
+    (i ≤ length bytes) × (length out ≡ length out₀) × Put out at' (hexLine (drop i bytes)) (at + min (length text) (length out₀ - at)) (sets out₀ at text)
 
 abbrev μ-loop : tie.MeasureT-loop
 μ-loop out₀ at bytes at₀ i₀ out at' i = length bytes - i
@@ -40,7 +42,13 @@ loop-less : tie.Need-loop-less Inv-loop μ-loop
 loop-less c = omega (arith, c .before .before .before .before .before .before .before .before .before .before .loop-test .taken)
 
 loop-again : tie.Need-loop-again Inv-loop μ-loop
-loop-again c = (omega arith, put-length (c .before .before .put-byte .ensures) ∙ put-length (c .before .before .before .before .before .before .before .put-hex-byte .ensures) ∙ c .before .before .before .before .before .before .before .before .before .before .before .loop .inv .1, line-next _ _ (c .before .before .before .before .before .before .before .before .before .before .before .loop .inv .2) (c .before .before .before .before .before .before .before .before .before .before .loop-test .taken) (c .before .before .before .before .before .before .before .put-hex-byte .ensures) (rw (c .before .before .before .separator .ensures) at (c .before .before .put-byte .ensures)))
+loop-again c =
+    let second = c .before .before .put-byte .ensures in
+    let pair = c .before .before .before .before .before .before .before in
+    let test = pair .before .before .before in
+    let loop = test .before .loop in
+    let first = pair .put-hex-byte .ensures in
+    (omega arith, put-length second ∙ put-length first ∙ loop .inv .1, line-next _ _ (loop .inv .2) (test .loop-test .taken) first (rw (c .before .before .before .separator .ensures) at second))
 
 same-length : tie.Need-same-length Inv-loop μ-loop
 same-length c = c .before .loop .inv .1

@@ -22,7 +22,11 @@ same-length c = search needs
 
 returns : tie.Need-returns
 unfolding refusedLine
-returns c = put-then (c .before .before .before .before .before .before .before .before .before .before .put .ensures) (put-then (c .before .before .before .before .before .before .put-decimal .ensures) (c .before .before .put-byte .ensures))
+returns c =
+    let last = c .before .before in
+    let second = last .before .before .before .before in
+    let first = second .before .before .before .before in
+    put-then (first .put .ensures) (put-then (second .put-decimal .ensures) (last .put-byte .ensures))
 
 pub put-refused-spec : {M : Type 1} → statement M
 put-refused-spec =
