@@ -1,8 +1,8 @@
 -- `hire_text::hire_text` meets its contract.
-use Rattle.hire_text.proofs.HireLaws.{buffer-left, run-inside, text-complete, text-refused}
-use lib.Seq.{length-take-le}
 use mathlib.Core.Path.{sym}
+use lib.Seq.{length-take-le}
 use borrow.Author.Needs.{needs}
+use Rattle.hire_text.proofs.HireLaws.{buffer-left, run-inside, text-complete, text-refused}
 use Rattle.hire_text.proofs.hire_text.Statement.{statement}
 use Rattle.hire_text.proofs.hire_text.Tie as tie
 
@@ -33,6 +33,9 @@ enum-told c = search needs
 enum-known-answer : tie.Need-enum-known-answer
 enum-known-answer c = search needs
 
+number-requires : tie.Need-number-requires
+number-requires c κs = search needs
+
 put-refused-requires : tie.Need-put-refused-requires
 put-refused-requires c κs = search needs
 
@@ -59,11 +62,17 @@ same-length-4 c = search needs
 
 returns-2 : tie.Need-returns-2
 returns-2 c =
-    let p = c .before .before .before .before .before .before .before .before .before in
-    let k = p .before .before .before .before .before in
-    let a = k .before .before .before .before .before .before .args in (
-      text-refused (a .script .now) (a .buffer .now) _ (k .run .result) (k .run .ensures) (p .put-parts .ensures) (c .before .before .before .before .before .answer .given .1) (c .before .before .put-refused .ensures),
-      buffer-left (a .script .now) (a .buffer .now) _ (k .run .result) (k .run .ensures),
+    let a =
+    c .before .before .before .before .before .before .before .before .before .before .before .before .before .before .before .before .before .before .before
+    .before .before .args in
+    let run = c .before .before .before .before .before .before .before .before .before .before .before .before .before .before .before .run in
+    let put-parts = c .before .before .before .before .before .before .before .before .before .before .put-parts in
+    let answer = c .before .before .before .before .before .before .answer in
+    let number = c .before .before .before .number in
+    let put-refused = c .before .before .put-refused in
+    let k = run in (
+      text-refused (a .script .now) (a .buffer .now) _ (k .result) (k .ensures) (put-parts .ensures) (answer .given .1) (number .ensures) (put-refused .ensures),
+      buffer-left (a .script .now) (a .buffer .now) _ (k .result) (k .ensures),
     )
 
 pub hire-text-spec : {M : Type 1} → statement M
@@ -77,6 +86,7 @@ hire-text-spec =
     put-parts-requires
     enum-told
     enum-known-answer
+    number-requires
     put-refused-requires
     same-length
     same-length-2
