@@ -178,7 +178,8 @@ pub fn run_rounds(
     out: &mut [u8],
     log: &mut [u8],
 ) -> usize
-    ensures { λ r. ⌜ loggedAs r (now (out .exit)) (now (log .exit)) ≡ loggedOf (rounds (serverRun (now (again .entry))) times (serverRun (now (script .entry)) (serverAt freshSession 0 (now (out .entry)) (now (log .entry))))) ⌝ }
+    ensures { λ r. ⌜ loggedAs r (now (out .exit)) (now (log .exit)) ≡
+        loggedOf (rounds (serverRun (now (again .entry))) times (serverRun (now (script .entry)) (serverAt freshSession 0 (now (out .entry)) (now (log .entry))))) ⌝ }
 {
     let mut turn = run(ServerSession::new(), script, out, log);
     let mut round: usize = 0;

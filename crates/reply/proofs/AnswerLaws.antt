@@ -4,7 +4,6 @@ use mathlib.Core.Bool.{Bool, true, false}
 use mathlib.Core.List.{List, [], _∷_, map}
 use Prim.Native.Nat.{ℕ, _≤_, _<_}
 use native.Mathlib.Omega.{arith}
-use lib.Dec.{ltb}
 use lib.ListN.{length}
 use lib.Seq.{sets}
 use borrow.Author.Tests.{le-ltb, lt-ltb, ltb-false}

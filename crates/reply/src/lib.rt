@@ -228,7 +228,8 @@ fn reply_size(list: &[u8], linefeeds: bool, spaces: bool, headers: bool) -> Repl
 // The lines of a well-formed list, then the prompt, from the start of out on, where there is room for them.
 fn write_lines(list: &[u8], linefeeds: bool, spaces: bool, headers: bool, out: &mut [u8]) -> usize
     requires { ⌜ LinesFit linefeeds spaces headers (now list) (now out) ⌝ }
-    ensures { λ r. ⌜ ((ls : List Line) (rest : List ℕ) → lineList (now (list .entry)) ≡ got ls rest → Put (now (out .entry)) 0 (chipReply linefeeds (map (lineText spaces headers) ls)) r (now (out .exit))) ⌝ }
+    ensures { λ r. ⌜ ((ls : List Line) (rest : List ℕ) → lineList (now (list .entry)) ≡ got ls rest →
+        Put (now (out .entry)) 0 (chipReply linefeeds (map (lineText spaces headers) ls)) r (now (out .exit))) ⌝ }
 {
     let mut cursor = LineCursor { at: 0 };
     let mut at: usize = 0;

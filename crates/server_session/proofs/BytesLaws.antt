@@ -3,23 +3,22 @@ use mathlib.Core.Path.{_≡_, refl, sym, ap, _∙_}
 use mathlib.Core.Bool.{Bool, true, false, cond, _||_}
 use mathlib.Core.List.{List, [], _∷_, _++_, append-nil, append-assoc}
 use Prim.Native.Nat.{ℕ, suc, _+_, _-_, _≤_, _<_}
-use native.Mathlib.Nat.{zero-add, sub-zero, suc-add}
+use native.Mathlib.Nat.{zero-add, sub-zero}
 use native.Mathlib.Omega.{arith}
 use lib.Dec.{eqb, leb, lit≤}
 use lib.ListN.{length, length-append}
-use borrow.Author.Tests.{eqb-true, eqb-false, leb-false}
+use borrow.Author.Tests.{eqb-false, leb-false}
 use Rattle.wire.specs.Answer.{result}
 use Rattle.wire.specs.Text.{ascii, begins, any}
-use Rattle.reply.specs.Shape.{chipReply}
 use Rattle.wire.proofs.Cases.{by-test, or-none}
 use Rattle.server_session.specs.declared.Phase.{Phase}
 use Rattle.server_session.specs.declared.Phase.the-variants.{Reading, AtCommand, ObdCommand}
 use Rattle.server_session.specs.declared.ServerStep.{ServerStep}
 use Rattle.server_session.specs.Session.{Session}
 use Rattle.server_session.specs.Call.{ServerSaid, serverSaying, ServerServed, serverStep, serverLent}
-use Rattle.server_session.specs.Bytes.{canonical, withLine, echoes, echoed, commandPhase, lineEnd, byteTaken, byteSays, goesOn, followed, bytesSay}
+use Rattle.server_session.specs.Bytes.{canonical, withLine, echoes, echoed, commandPhase, lineEnd, byteTaken, byteSays, goesOn, bytesSay}
 use Rattle.server_session.specs.Steps.{isSpecial}
-use Rattle.server_session.proofs.ByteLaws.{says-open, empty-none, empty-last, line-command, taken-plain, text-short, taken-most, on-taken}
+use Rattle.server_session.proofs.ByteLaws.{says-open, empty-last, line-command, taken-plain, text-short, taken-most, on-taken}
 
 -- A plain byte
 
@@ -157,15 +156,6 @@ cr-repeat rest s room t f z h =
     let d : byteSays room s 13 ≡ serverSaying 1 (withLine s (s .state .last) ObdCommand) (echoed s 13) =
     says-cr room s t f ∙ rw z (empty-last s (echoed s 13) (s .state .last) (λ e. omega arith)) in
     bytes-stop room s 13 rest (rw d) ∙ rw d
-
--- and `?` where there is none
-pub cr-unknown : (rest : List ℕ) (s : Session) (room : ℕ) → s .phase ≡ Reading → 8 ≤ room → canonical (s .line) ≡ [] → s .state .last ≡ [] →
-    let e = echoed s 13 ++ chipReply (s .state .linefeeds) (ascii "?" ∷ []) in
-    bytesSay room s (13 ∷ rest) ≡ after 1 e (bytesSay (room - length e) (withLine s [] Reading) rest)
-cr-unknown rest s room t f z h =
-    let e = echoed s 13 ++ chipReply (s .state .linefeeds) (ascii "?" ∷ []) in
-    let d : byteSays room s 13 ≡ serverSaying 1 (withLine s [] Reading) e = says-cr room s t f ∙ rw z (empty-none s (echoed s 13) (s .state .last) (ap length h)) in
-    bytes-on room s 13 rest (rw d) ∙ rw d
 
 -- A line of plain bytes, and CR: its command is handed out, all of it was taken and sent back where echo is on.
 pub line-says : (text rest : List ℕ) (s : Session) (room : ℕ) → any isSpecial text ≡ false → s .phase ≡ Reading → length (s .line) + length text ≤ 128 → length (echoes s text) + 8 ≤ room →

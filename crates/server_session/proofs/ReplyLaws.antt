@@ -6,12 +6,11 @@ use Prim.Native.Nat.{ℕ, _+_, _≤_}
 use native.Mathlib.Omega.{arith}
 use lib.Dec.{eqb, ltb}
 use lib.ListN.{length, length-append}
-use lib.Seq.{sets}
 use borrow.Author.Tests.{eqb-true, eqb-false, le-ltb, ltb-false}
 use Rattle.wire.specs.Answer.{unless}
 use Rattle.wire.specs.declared.Refusal.{Refusal}
 use Rattle.wire.proofs.UnlessLaws.{unless-by}
-use Rattle.wire.proofs.Cases.{by-test, from-no, or-none}
+use Rattle.wire.proofs.Cases.{by-test, or-none}
 use Rattle.group.specs.Group.{got, isMalformed, listOf}
 use Rattle.line_list.specs.Lines.{Line, lineList}
 use Rattle.line_list.proofs.StepLaws.{left-end}

@@ -16,7 +16,6 @@ use Rattle.client_state.specs.Settings.{Settings}
 use Rattle.wire.specs.Text.{any}
 use Rattle.wire.proofs.Cases.{by-test, from-no, or-none}
 use Rattle.wire.proofs.PutLaws.{put-none, put-then, put-whole, put-length, put-inside}
-use Rattle.server_session.specs.declared.Phase.{Phase}
 use Rattle.server_session.specs.declared.ServerAnswer.{ServerAnswer}
 use Rattle.server_session.specs.declared.Flags.{Flags}
 use Rattle.server_session.specs.declared.Did.{Did}

@@ -5,7 +5,6 @@ use mathlib.Core.List.{List, [], _∷_, _++_}
 use Prim.Native.Nat.{ℕ, _+_, _-_, _≤_, _<_, min}
 use lib.Dec.{eqb, leb}
 use lib.ListN.{length, take, drop}
-use Rattle.wire.specs.declared.Refusal.{Refusal}
 use Rattle.wire.specs.Put.{Put}
 use Rattle.wire.specs.Text.{any}
 use Rattle.client_state.specs.Settings.{Settings}
@@ -13,7 +12,6 @@ use Rattle.server_session.specs.declared.Turn.{Turn}
 use Rattle.server_session.specs.declared.Flags.{Flags}
 use Rattle.server_session.specs.declared.Did.{Did}
 use Rattle.server_session.specs.declared.Run.{Run}
-use Rattle.server_session.specs.declared.ServerAnswer.the-variants.{Refused}
 use Rattle.server_session.specs.Session.{Session, isReading}
 use Rattle.server_session.specs.Call.{ServerSaid, ServerServed, serverAnswer}
 use Rattle.server_session.specs.Bytes.{goesOn}

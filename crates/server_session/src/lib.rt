@@ -98,6 +98,14 @@ fn is_reading(phase: Phase) -> bool
     }
 }
 
+// No command is handed out, and no byte read.
+fn line_awaited() -> Turn
+    ensures { λ r. ⌜ r ≡ record { phase = Phase.Reading; len = 0 } ⌝ }
+{
+    let phase = Phase::Reading;
+    Turn { phase, len: 0 }
+}
+
 // The answer that tells of a phase.
 fn phase_answer(phase: Phase) -> ServerAnswer
     ensures { λ r. ⌜ serverAnswer r ≡ result phase ⌝ }
@@ -308,10 +316,7 @@ fn end_empty(flags: Flags, out: &mut [u8], at: usize) -> Did
 {
     if flags.last == 0 {
         let end = reply::put_text_reply(out, at, b"?", flags.linefeeds);
-        let turn = Turn {
-            phase: Phase::Reading,
-            len: 0,
-        };
+        let turn = line_awaited();
         return Did {
             answer: ServerAnswer::Reading,
             turn,
@@ -413,7 +418,8 @@ fn take_byte(
 fn take_bytes(line: &mut [u8; 128], turn: Turn, flags: Flags, input: &[u8], out: &mut [u8]) -> Did
     requires { ⌜ length (now line) ≡ 128 ⌝ }
     ensures { λ r. ⌜ ((state : Settings) → Shows state flags →
-        Serves (serverLent (bytesSay (length (now (out .entry))) (turnSession turn state (now (line .entry))) (now (input .entry))) (now (out .entry))) state (now (line .exit)) r (now (out .exit))) ⌝ }
+        Serves (serverLent (bytesSay (length (now (out .entry))) (turnSession turn state (now (line .entry))) (now (input .entry))) (now (out .entry))) state (now (line .exit)) r
+        (now (out .exit))) ⌝ }
     ensures { λ r. ⌜ length (now (line .exit)) ≡ 128 ⌝ }
     ensures { λ r. ⌜ ((q : Refusal) → r .answer ≡ ServerAnswer.Refused q → r .taken ≡ 0 → Leaves turn (now (line .entry)) r (now (line .exit))) ⌝ }
 {
@@ -454,10 +460,7 @@ impl ServerSession {
         ServerSession {
             state: ClientState::default(),
             line: [0; 128],
-            turn: Turn {
-                phase: Phase::Reading, // no command is handed out
-                len: 0, // nor a byte read
-            },
+            turn: line_awaited(),
         }
     }
 

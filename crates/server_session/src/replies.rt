@@ -12,8 +12,7 @@ use wire::Refusal;
 use wire::Verdict;
 ghost use mathlib.Core.Path.{_≡_};
 ghost use mathlib.Core.Bool.{cond};
-ghost use mathlib.Core.List.{List, [], _∷_};
-ghost use Prim.Native.Nat.{ℕ};
+ghost use mathlib.Core.List.{[], _∷_};
 ghost use lib.Dec.{eqb};
 ghost use lib.ListN.{length, take};
 ghost use Rattle.wire.specs.declared.Refusal.{Refusal};
@@ -60,7 +59,8 @@ fn text_reply_size(text: &[u8], linefeeds: bool) -> usize
 
 // Whether an AT answer is refused.
 fn answer_verdict(turn: Turn, ati: &[u8], device: &[u8], room: usize) -> Verdict
-    ensures { λ r. ⌜ ((s : Session) → s .phase ≡ turn .phase → answerSays room s (now (ati .entry)) (now (device .entry)) ≡ settled r (serverRefusing s) (atAnswered s (now (ati .entry)) (now (device .entry)))) ⌝ }
+    ensures { λ r. ⌜ ((s : Session) → s .phase ≡ turn .phase → answerSays room s (now (ati .entry)) (now (device .entry)) ≡
+        settled r (serverRefusing s) (atAnswered s (now (ati .entry)) (now (device .entry)))) ⌝ }
 {
     let phase = turn.phase;
     if !is_at(phase) {
@@ -86,7 +86,8 @@ fn answer_verdict(turn: Turn, ati: &[u8], device: &[u8], room: usize) -> Verdict
 
 // Whether a rejection is refused.
 fn reject_verdict(turn: Turn, text: &[u8], linefeeds: bool, room: usize) -> Verdict
-    ensures { λ r. ⌜ ((s : Session) → s .phase ≡ turn .phase → s .state .linefeeds ≡ linefeeds → rejectSays room s (now (text .entry)) ≡ settled r (serverRefusing s) (rejected s (now (text .entry)))) ⌝ }
+    ensures { λ r. ⌜ ((s : Session) → s .phase ≡ turn .phase → s .state .linefeeds ≡ linefeeds → rejectSays room s (now (text .entry)) ≡
+        settled r (serverRefusing s) (rejected s (now (text .entry)))) ⌝ }
 {
     let phase = turn.phase;
     if !is_obd(phase) {
@@ -170,7 +171,13 @@ fn kept(state: ClientState, line: &[u8], len: usize, lines: usize) -> ClientStat
 impl ServerSession {
     // The command has been answered: with settings as they are now the next line is read.
     fn answered(mut self, state: ClientState, written: usize) -> ServerStep
-        ensures { λ r. ⌜ r ≡ record { answer = ServerAnswer.Reading; taken = 0; written = written; session = record { state = state; line = self .line; turn = record { phase = Phase.Reading; len = 0 } } } ⌝ }
+        ensures { λ r. ⌜ r ≡ record {
+          answer = ServerAnswer.Reading;
+          taken = 0;
+          written = written;
+          session = record
+              { state = state; line = self .line; turn = record { phase = Phase.Reading; len = 0 } };
+        } ⌝ }
     {
         self.state = state;
         let turn = Turn {

@@ -1,6 +1,4 @@
 -- `reply::write_reply` meets its contract: the size decides, and the text is then written whole.
-use mathlib.Core.List.{List}
-use Prim.Native.Nat.{ℕ}
 use native.Mathlib.Omega.{arith}
 use borrow.Author.Needs.{needs}
 use Rattle.reply.proofs.AnswerLaws.{answer-refused, answer-small, answer-none, answer-room, answer-some}

@@ -8,7 +8,7 @@ use Rattle.server_session.specs.declared.Turn.{Turn}
 use Rattle.client_state.specs.Settings.{Settings}
 use Rattle.wire.specs.declared.Verdict.the-variants.{Accepted}
 use Rattle.wire.specs.Steps.{settled}
-use lib.ListN.{take, length-set}
+use lib.ListN.{length-set}
 use native.Mathlib.Omega.{arith}
 use Prim.Native.Nat.{ℕ, _<_}
 use mathlib.Core.Path.{_≡_, refl}
