@@ -72,7 +72,8 @@ fn ask(
     store: &mut [u8],
 ) -> Round
     requires { ⌜ (count ≤ 256) × (length (now reply) ≡ replyRoom) ⌝ }
-    ensures { λ r. ⌜ Comes (asking (benchOf bench (now (store .entry)) (now (lengths .entry))) (startSays (client (bench .client)) (now (pids .entry)) count) (now (list .entry))) r (now (reply .exit)) (now (store .exit)) (now (lengths .entry)) ⌝ }
+    ensures { λ r. ⌜ Comes (asking (benchOf bench (now (store .entry)) (now (lengths .entry))) (startSays (client (bench .client)) (now (pids .entry)) count) (now (list .entry)))
+        r (now (reply .exit)) (now (store .exit)) (now (lengths .entry)) ⌝ }
 {
     let mut out = [0u8; 80];
     let begun = begin(bench, pids, count, &mut out);
@@ -144,7 +145,8 @@ pub(crate) fn part(
     store: &mut [u8],
 ) -> PartStep
     requires { ⌜ (count ≤ 256) × (length (now work) ≡ replyRoom) ⌝ }
-    ensures { λ r. ⌜ PartDoes (finished (asking (benchOf bench (now (store .entry)) (now (lengths .entry))) (startSays (client (bench .client)) (now (pids .entry)) count) (now (list .entry)))) r (now (work .exit)) (now (store .exit)) (now (lengths .entry)) ⌝ }
+    ensures { λ r. ⌜ PartDoes (finished (asking (benchOf bench (now (store .entry)) (now (lengths .entry))) (startSays (client (bench .client)) (now (pids .entry)) count) (now (list .entry))))
+        r (now (work .exit)) (now (store .exit)) (now (lengths .entry)) ⌝ }
 {
     let asked = ask(bench, pids, count, list, lengths, work, store);
     finish(asked, store, work)

@@ -106,7 +106,8 @@ fn add_part(
     at: usize,
 ) -> BenchRun
     requires { ⌜ (size ≤ length (now values)) × (at ≤ length (now buffer)) ⌝ }
-    ensures { λ r. ⌜ recorded r (now (buffer .exit)) ≡ lentFrom at (added (length (now (buffer .entry)) - at) (partText answer (take size (now (values .entry))))) (now (buffer .entry)) ⌝ }
+    ensures { λ r. ⌜ recorded r (now (buffer .exit)) ≡
+        lentFrom at (added (length (now (buffer .entry)) - at) (partText answer (take size (now (values .entry))))) (now (buffer .entry)) ⌝ }
 {
     match answer {
         PartAnswer::Refused(refusal) => refused(refusal, at),
@@ -133,7 +134,8 @@ fn ask_all(
     store: &mut [u8],
 ) -> BenchRun
     requires { ⌜ IsScript (now script) × (length (now work) ≡ replyRoom) ⌝ }
-    ensures { λ r. ⌜ recorded r (now (buffer .exit)) ≡ runLent (asked (length (now (buffer .entry))) (benchOf bench (now (store .entry)) (now (lengths .entry))) (queriesOf (now (script .entry)))) (now (buffer .entry)) ⌝ }
+    ensures { λ r. ⌜ recorded r (now (buffer .exit)) ≡
+        runLent (asked (length (now (buffer .entry))) (benchOf bench (now (store .entry)) (now (lengths .entry))) (queriesOf (now (script .entry)))) (now (buffer .entry)) ⌝ }
 {
     let mut cursor = ScriptCursor::new();
     let mut at: usize = 0;
@@ -177,7 +179,8 @@ fn ask_all(
 // A run of a checked script from fresh sessions.
 fn run_checked(script: &[u8], lengths: &[u8], repeat: bool, buffer: &mut [u8]) -> BenchRun
     requires { ⌜ IsScript (now script) ⌝ }
-    ensures { λ r. ⌜ recorded r (now (buffer .exit)) ≡ runLent (runSays repeat (now (lengths .entry)) (length (now (buffer .entry))) (now (script .entry))) (now (buffer .entry)) ⌝ }
+    ensures { λ r. ⌜ recorded r (now (buffer .exit)) ≡
+        runLent (runSays repeat (now (lengths .entry)) (length (now (buffer .entry))) (now (script .entry))) (now (buffer .entry)) ⌝ }
 {
     let mut work = [0u8; 33026];
     let mut store = [0u8; 4096];
@@ -194,7 +197,8 @@ fn run_checked(script: &[u8], lengths: &[u8], repeat: bool, buffer: &mut [u8]) -
 // Runs a script, with the lengths of the pieces that the server's bytes are handed to the client in, and with repeat on or off. The parts stand at the front of
 // the record buffer.
 pub fn run(script: &[u8], lengths: &[u8], repeat: bool, buffer: &mut [u8]) -> BenchRun
-    ensures { λ r. ⌜ recorded r (now (buffer .exit)) ≡ runLent (runSays repeat (now (lengths .entry)) (length (now (buffer .entry))) (now (script .entry))) (now (buffer .entry)) ⌝ }
+    ensures { λ r. ⌜ recorded r (now (buffer .exit)) ≡
+        runLent (runSays repeat (now (lengths .entry)) (length (now (buffer .entry))) (now (script .entry))) (now (buffer .entry)) ⌝ }
 {
     match script::check_script(script) {
         ScriptCheck::Queries(_) => run_checked(script, lengths, repeat, buffer),

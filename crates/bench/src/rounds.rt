@@ -31,7 +31,8 @@ fn back(
     store: &mut [u8],
 ) -> Round
     requires { ⌜ length (now out) ≡ sendRoom ⌝ }
-    ensures { λ r. ⌜ Back (delivered sendRoom (client session) (now (store .entry)) (drop used (now (lengths .entry))) (now (sent .entry))) server r (now (out .exit)) (now (store .exit)) (now (lengths .entry)) ⌝ }
+    ensures { λ r. ⌜ Back (delivered sendRoom (client session) (now (store .entry)) (drop used (now (lengths .entry))) (now (sent .entry))) server
+        r (now (out .exit)) (now (store .exit)) (now (lengths .entry)) ⌝ }
 {
     let given = exchange::deliver(session, sent, lengths, used, store, out);
     let answer = given.answer;
@@ -58,7 +59,8 @@ fn round(
     store: &mut [u8],
 ) -> Round
     requires { ⌜ (n ≤ length (now out)) × Room (now out) (now reply) ⌝ }
-    ensures { λ r. ⌜ RoundDoes (round (benchOf bench (now (store .entry)) (now (lengths .entry))) (take n (now (out .entry))) (now (list .entry))) r (now (out .exit)) (now (reply .exit)) (now (store .exit)) (now (lengths .entry)) ⌝ }
+    ensures { λ r. ⌜ RoundDoes (round (benchOf bench (now (store .entry)) (now (lengths .entry))) (take n (now (out .entry))) (now (list .entry)))
+        r (now (out .exit)) (now (reply .exit)) (now (store .exit)) (now (lengths .entry)) ⌝ }
 {
     let server = bench.server;
     let client = bench.client;
@@ -94,7 +96,8 @@ pub(crate) fn onward(
     store: &mut [u8],
 ) -> Round
     requires { ⌜ (at .written ≤ length (now out)) × Room (now out) (now reply) ⌝ }
-    ensures { λ r. ⌜ RoundDoes (onward n (roundOf at (now (out .entry)) (now (store .entry)) (now (lengths .entry))) (now (list .entry))) r (now (out .exit)) (now (reply .exit)) (now (store .exit)) (now (lengths .entry)) ⌝ }
+    ensures { λ r. ⌜ RoundDoes (onward n (roundOf at (now (out .entry)) (now (store .entry)) (now (lengths .entry))) (now (list .entry)))
+        r (now (out .exit)) (now (reply .exit)) (now (store .exit)) (now (lengths .entry)) ⌝ }
 {
     let mut left = n;
     while 0 < left {
@@ -133,7 +136,8 @@ fn one_piece(
     out: &mut [u8],
     store: &mut [u8],
 ) -> Round
-    ensures { λ r. ⌜ OnePiece (clientLent (pieceSays (length (now (out .entry))) (client session) (now (sent .entry)) (now (store .entry))) (now (out .entry))) (storeAfter (client session) (clientAnswer (r .answer)) (now (sent .entry)) (now (store .entry))) server r (now (out .exit)) (now (store .exit)) ⌝ }
+    ensures { λ r. ⌜ OnePiece (clientLent (pieceSays (length (now (out .entry))) (client session) (now (sent .entry)) (now (store .entry))) (now (out .entry)))
+        (storeAfter (client session) (clientAnswer (r .answer)) (now (sent .entry)) (now (store .entry))) server r (now (out .exit)) (now (store .exit)) ⌝ }
 {
     let step = session.piece(sent, store, out);
     let answer = step.answer;

@@ -16,7 +16,7 @@ use Rattle.client_session.specs.declared.ClientAnswer.the-variants as an
 use Rattle.client_session.specs.declared.ClientStep.{ClientStep}
 use Rattle.client_session.specs.Session.{Client}
 use Rattle.client_session.specs.Call.{Progress, ClientSaid, ClientServed, clientLent, clientAnswer, clientStep, RefusedOrFailed}
-use Rattle.client_session.specs.Steps.{Does, Ends, unchanged}
+use Rattle.client_session.specs.Steps.{Does, Stepped, unchanged}
 
 -- a call that does what is said, with room for its text, is what the host is to see
 pub does-lent : {d : ClientSaid} {out : List ℕ} {s : ClientServed} → Does d out s → length (d .text) ≤ length out → s ≡ clientLent d out
@@ -29,17 +29,17 @@ pub does-as : {d e : ClientSaid} {out : List ℕ} {s : ClientServed} → d ≡ e
 does-as {out} {s} q p = subst (λ (d : ClientSaid). Does d out s) (sym q) p
 
 -- a call that sends a text, and one that sends nothing
-pub does-sends : {c : Client} {a : ClientAnswer} {r : ClientStep} {n : ℕ} {x : Answer Progress} {t out left : List ℕ} → Ends c a n r → clientAnswer a ≡ x → Put out 0 t n left →
+pub does-sends : {c : Client} {a : ClientAnswer} {r : ClientStep} {n : ℕ} {x : Answer Progress} {t out left : List ℕ} → Stepped c a n r → clientAnswer a ≡ x → Put out 0 t n left →
     Does (record { answer = x; next = c; text = t }) out (clientStep r left)
 does-sends {t} {out} {left} p e put =
     record { answer = ap clientAnswer (p .answer) ∙ e; next = p .next; text = subst (λ (n : ℕ). Put out 0 t n left) (sym (p .written)) put }
 
-pub does-end : {c : Client} {a : ClientAnswer} {r : ClientStep} {x : Answer Progress} {out : List ℕ} → Ends c a 0 r → clientAnswer a ≡ x →
+pub does-end : {c : Client} {a : ClientAnswer} {r : ClientStep} {x : Answer Progress} {out : List ℕ} → Stepped c a 0 r → clientAnswer a ≡ x →
     Does (record { answer = x; next = c; text = [] }) out (clientStep r out)
 does-end {out} p e = does-sends p e (put-none out 0)
 
 -- the session in other words
-pub ends-as : {c d : Client} {a : ClientAnswer} {n : ℕ} {r : ClientStep} → c ≡ d → Ends c a n r → Ends d a n r
+pub ends-as : {c d : Client} {a : ClientAnswer} {n : ℕ} {r : ClientStep} → c ≡ d → Stepped c a n r → Stepped d a n r
 ends-as q p = record { answer = p .answer; written = p .written; next = p .next ∙ q }
 
 -- a text that was put into an array stands at its front

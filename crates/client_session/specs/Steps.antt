@@ -22,7 +22,7 @@ pub record Does (d : ClientSaid) (out : List ℕ) (s : ClientServed) : Type 0 wh
   pub text : Put out 0 (d .text) (s .written) (s .out)
 
 -- A call gives an answer, sends so many bytes, and leaves this session.
-pub record Ends (c : Client) (a : ClientAnswer) (n : ℕ) (r : ClientStep) : Type 0 where
+pub record Stepped (c : Client) (a : ClientAnswer) (n : ℕ) (r : ClientStep) : Type 0 where
   pub answer : r .answer ≡ a
   pub written : r .written ≡ n
   pub next : client (r .session) ≡ c

@@ -13,7 +13,7 @@ ghost use mathlib.Core.Bool.{_&&_};
 ghost use mathlib.Core.List.{[]};
 ghost use Rattle.client_session.specs.Session.{client, freshClient, isIdle, isComplete, withUnder, withLastQuery};
 ghost use Rattle.client_session.specs.Call.{isQuery, inQuery, failedClient};
-ghost use Rattle.client_session.specs.Steps.{Ends, unchanged};
+ghost use Rattle.client_session.specs.Steps.{Stepped, unchanged};
 
 // A command whose reply is awaited.
 pub enum Command {
@@ -169,22 +169,33 @@ impl ClientSession {
         self
     }
 
-    // So many bytes of out are to be sent, with this or nothing under way.
-    fn ends(self, answer: ClientAnswer, written: usize, under: Under, got: usize) -> ClientStep
-        ensures { λ r. ⌜ Ends (withUnder (client self) under got) answer written r ⌝ }
+    // So many bytes of out are to be sent, with this or nothing under way. (The session is changed in place: a further call would copy it.)
+    fn ends(mut self, answer: ClientAnswer, written: usize, under: Under, got: usize) -> ClientStep
+        ensures { λ r. ⌜ Stepped (withUnder (client self) under got) answer written r ⌝ }
     {
+        let pending = Pending { under, got };
+        self.pending = pending;
         ClientStep {
             answer,
             written,
-            session: self.moved(under, got),
+            session: self,
         }
     }
 
     // So many bytes of out are this command, whose reply is awaited.
-    fn sends(self, command: Command, written: usize) -> ClientStep
-        ensures { λ r. ⌜ Ends (withUnder (client self) (Under.Awaiting command) 0) ClientAnswer.Sent written r ⌝ }
+    fn sends(mut self, command: Command, written: usize) -> ClientStep
+        ensures { λ r. ⌜ Stepped (withUnder (client self) (Under.Awaiting command) 0) ClientAnswer.Sent written r ⌝ }
     {
-        self.ends(ClientAnswer::Sent, written, Under::Awaiting(command), 0)
+        let pending = Pending {
+            under: Under::Awaiting(command),
+            got: 0,
+        };
+        self.pending = pending;
+        ClientStep {
+            answer: ClientAnswer::Sent,
+            written,
+            session: self,
+        }
     }
 
     // 1 to 6 change nothing.
@@ -224,7 +235,7 @@ impl ClientSession {
 
     // 7, 8 and 9 end what is under way.
     fn fails(self, refusal: Refusal) -> ClientStep
-        ensures { λ r. ⌜ Ends (failedClient (client self)) (ClientAnswer.Failed refusal) 0 r ⌝ }
+        ensures { λ r. ⌜ Stepped (failedClient (client self)) (ClientAnswer.Failed refusal) 0 r ⌝ }
     {
         ClientStep {
             answer: ClientAnswer::Failed(refusal),

@@ -59,7 +59,8 @@ fn command_verdict(under: Under, command: &[u8], room: usize) -> Verdict
 
 // Whether a query is refused.
 fn query_verdict(under: Under, pids: &[u8], room: usize) -> Verdict
-    ensures { λ r. ⌜ ((c : Client) → (count : ℕ) → (several : Bool) → c .under ≡ under → querySays room c (now (pids .entry)) count several ≡ settled r (clientRefusing c) (sendQuery c (request (now (pids .entry)) count several))) ⌝ }
+    ensures { λ r. ⌜ ((c : Client) → (count : ℕ) → (several : Bool) → c .under ≡
+        under → querySays room c (now (pids .entry)) count several ≡ settled r (clientRefusing c) (sendQuery c (request (now (pids .entry)) count several))) ⌝ }
     ensures { λ r. ⌜ Early r ⌝ }
     ensures { λ r. ⌜ (r ≡ Verdict.Accepted → length (now (pids .entry)) ≤ 6) ⌝ }
 {
@@ -151,7 +152,8 @@ impl ClientSession {
 
     // Starts a query.
     fn start_query(self, pids: &[u8], count: EcuCount, several: bool, out: &mut [u8]) -> ClientStep
-        ensures { λ r. ⌜ clientStep r (now (out .exit)) ≡ clientLent (querySays (length (now (out .entry))) (client self) (now (pids .entry)) (countOf count) several) (now (out .entry)) ⌝ }
+        ensures { λ r. ⌜ clientStep r (now (out .exit)) ≡
+            clientLent (querySays (length (now (out .entry))) (client self) (now (pids .entry)) (countOf count) several) (now (out .entry)) ⌝ }
         ensures { λ r. ⌜ RefusedOrFailed r self ⌝ }
     {
         let pending = self.pending;
@@ -174,7 +176,8 @@ impl ClientSession {
 
     // Starts a query of one to six PIDs. The first such query decides multi-PID support.
     pub fn query_pids(self, pids: &[u8], count: EcuCount, out: &mut [u8]) -> ClientStep
-        ensures { λ r. ⌜ clientStep r (now (out .exit)) ≡ clientLent (querySays (length (now (out .entry))) (client self) (now (pids .entry)) (countOf count) true) (now (out .entry)) ⌝ }
+        ensures { λ r. ⌜ clientStep r (now (out .exit)) ≡
+            clientLent (querySays (length (now (out .entry))) (client self) (now (pids .entry)) (countOf count) true) (now (out .entry)) ⌝ }
         ensures { λ r. ⌜ RefusedOrFailed r self ⌝ }
     {
         self.start_query(pids, count, true, out)

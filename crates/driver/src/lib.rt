@@ -21,7 +21,8 @@ pub extern "C" fn driver_server(
     out: &mut [u8],
     log: &mut [u8],
 ) -> usize
-    ensures { λ r. ⌜ loggedAs r (now (out .exit)) (now (log .exit)) ≡ loggedOf (rounds (serverRun (now (again .entry))) times (serverRun (now (script .entry)) (serverAt freshSession 0 (now (out .entry)) (now (log .entry))))) ⌝ }
+    ensures { λ r. ⌜ loggedAs r (now (out .exit)) (now (log .exit)) ≡
+        loggedOf (rounds (serverRun (now (again .entry))) times (serverRun (now (script .entry)) (serverAt freshSession 0 (now (out .entry)) (now (log .entry))))) ⌝ }
 {
     driver_server::run_rounds(script, times, again, out, log)
 }
@@ -38,7 +39,9 @@ pub extern "C" fn driver_client(
     out: &mut [u8],
     log: &mut [u8],
 ) -> usize
-    ensures { λ r. ⌜ storedAs r (now (store .exit)) (now (out .exit)) (now (log .exit)) ≡ storedOf (rounds (clientRun (now (again .entry))) times (clientRun (now (script .entry)) (clientAt (freshClient framing repeat) 0 (now (store .entry)) (now (out .entry)) (now (log .entry))))) ⌝ }
+    ensures { λ r. ⌜ storedAs r (now (store .exit)) (now (out .exit)) (now (log .exit)) ≡
+        storedOf (rounds (clientRun (now (again .entry))) times
+        (clientRun (now (script .entry)) (clientAt (freshClient framing repeat) 0 (now (store .entry)) (now (out .entry)) (now (log .entry))))) ⌝ }
 {
     driver_client::run_rounds(framing, repeat, script, times, again, store, out, log)
 }

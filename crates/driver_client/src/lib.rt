@@ -17,7 +17,8 @@ ghost use Rattle.client_session.specs.Session.{client, freshClient};
 ghost use Rattle.client_session.specs.Call.{clientAnswer};
 ghost use Rattle.driver_log.specs.Log.{textEntry};
 ghost use Rattle.driver_log.specs.Script.{calls, rounds};
-ghost use Rattle.driver_client.specs.Client.{startCode, stepCode, countEntry, supportCode, commandCode, underCode, lengthNumber, pidsEntry, stateEntry, countGiven, rareCall, clientCall, clientTurn, clientAt, clientRun, storedOf, storedAs};
+ghost use Rattle.driver_client.specs.Client.{startCode, stepCode, countEntry, supportCode, commandCode, underCode, lengthNumber, pidsEntry};
+ghost use Rattle.driver_client.specs.Client.{stateEntry, countGiven, rareCall, clientCall, clientTurn, clientAt, clientRun, storedOf, storedAs};
 
 // A session after some calls of a script, and the position in the log after their entries.
 struct ClientTurn {
@@ -201,7 +202,8 @@ fn rare(
     log: &mut [u8],
     at: usize,
 ) -> ClientTurn
-    ensures { λ r. ⌜ clientTurn r (now (store .entry)) (now (out .exit)) (now (log .exit)) ≡ rareCall (clientAt (client session) at (now (store .entry)) (now (out .entry)) (now (log .entry))) kind (now (arg .entry)) ⌝ }
+    ensures { λ r. ⌜ clientTurn r (now (store .entry)) (now (out .exit)) (now (log .exit)) ≡
+        rareCall (clientAt (client session) at (now (store .entry)) (now (out .entry)) (now (log .entry))) kind (now (arg .entry)) ⌝ }
 {
     match kind {
         6 => {
@@ -260,7 +262,8 @@ fn run(
     out: &mut [u8],
     log: &mut [u8],
 ) -> ClientTurn
-    ensures { λ r. ⌜ clientTurn r (now (store .exit)) (now (out .exit)) (now (log .exit)) ≡ calls clientCall (clientAt (client session) 0 (now (store .entry)) (now (out .entry)) (now (log .entry))) (now (script .entry)) ⌝ }
+    ensures { λ r. ⌜ clientTurn r (now (store .exit)) (now (out .exit)) (now (log .exit)) ≡
+        calls clientCall (clientAt (client session) 0 (now (store .entry)) (now (out .entry)) (now (log .entry))) (now (script .entry)) ⌝ }
 {
     let mut session = session;
     let mut from: usize = 0;
@@ -335,7 +338,9 @@ pub fn run_rounds(
     out: &mut [u8],
     log: &mut [u8],
 ) -> usize
-    ensures { λ r. ⌜ storedAs r (now (store .exit)) (now (out .exit)) (now (log .exit)) ≡ storedOf (rounds (clientRun (now (again .entry))) times (clientRun (now (script .entry)) (clientAt (freshClient framing repeat) 0 (now (store .entry)) (now (out .entry)) (now (log .entry))))) ⌝ }
+    ensures { λ r. ⌜ storedAs r (now (store .exit)) (now (out .exit)) (now (log .exit)) ≡
+        storedOf (rounds (clientRun (now (again .entry))) times
+        (clientRun (now (script .entry)) (clientAt (freshClient framing repeat) 0 (now (store .entry)) (now (out .entry)) (now (log .entry))))) ⌝ }
 {
     let mut turn = run(ClientSession::new(framing, repeat), script, store, out, log);
     let mut round: usize = 0;
