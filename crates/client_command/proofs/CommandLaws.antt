@@ -1,42 +1,31 @@
 -- Laws of the commands' texts.
-use mathlib.Core.Path.{_≡_, refl, sym, ap, _∙_}
+use mathlib.Core.Path.{_≡_, refl, sym, _∙_}
 use mathlib.Core.Bool.{Bool, true, false, cond}
 use mathlib.Core.List.{List, [], _∷_, _++_, map}
 use Prim.Native.Nat.{ℕ, zero, suc, _+_, _-_, _≤_, _<_}
 use native.Mathlib.Omega.{arith}
 use lib.Dec.{eqb}
-use lib.ListN.{length, drop, getD, length-map, List·getD-map}
-use borrow.Author.Tests.{eq-eqb, ne-eqb, eqb-true}
+use lib.ListN.{length, drop, getD, length-append, length-map, List·getD-map}
+use borrow.Author.Tests.{eq-eqb, ne-eqb}
 use Rattle.wire.specs.Text.{ascii, begins, raised}
 use Rattle.wire.proofs.Cases.{by-test}
 use Rattle.wire.proofs.TextLaws.{same-begins, same-long, begins-differ, begins-next}
 use Rattle.client_command.specs.Commands.{withCR, isCommand, setupText}
 
--- a raw command's text by its last byte, which stands at n
-cr-at : (s : List ℕ) (n : ℕ) → length s ≡ n + 1 → withCR s ≡ cond (eqb (getD s n 0) 13) s (s ++ (13 ∷ []))
-cr-at [] n h = absurd (omega arith)
-cr-at (b ∷ []) zero h = by-test (eqb b 13) (λ e. rw (e, eqb-true b 13 e)) (λ e. rw e)
-cr-at (b ∷ []) (suc n) h = absurd (omega arith)
-cr-at (b ∷ c ∷ s) zero h = absurd (omega arith)
-cr-at (b ∷ c ∷ s) (suc n) h =
-    ap (λ t. b ∷ t) (cr-at (c ∷ s) n (omega arith)) ∙ by-test (eqb (getD (c ∷ s) n 0) 13) (λ e. rw e) (λ e. rw e)
+-- a raw command's text by its last byte
+pub cr-there : (s : List ℕ) → getD s (length s - 1) 0 ≡ 13 → withCR s ≡ s
+cr-there s e = rw (eq-eqb (getD s (length s - 1) 0) 13 e)
 
-module _ (s : List ℕ) (some : length s ≡ 0 → ⊥) where
-  pub cr-there : getD s (length s - 1) 0 ≡ 13 → withCR s ≡ s
-  cr-there e = cr-at s (length s - 1) (omega arith) ∙ rw (eq-eqb (getD s (length s - 1) 0) 13 e)
-
-  pub cr-added : (getD s (length s - 1) 0 ≡ 13 → ⊥) → withCR s ≡ s ++ (13 ∷ [])
-  cr-added e = cr-at s (length s - 1) (omega arith) ∙ rw (ne-eqb (getD s (length s - 1) 0) 13 e)
+pub cr-added : (s : List ℕ) → (getD s (length s - 1) 0 ≡ 13 → ⊥) → withCR s ≡ s ++ (13 ∷ [])
+cr-added s e = rw (ne-eqb (getD s (length s - 1) 0) 13 e)
 
 pub cr-alone : (s : List ℕ) → length s ≡ 0 → withCR s ≡ s ++ (13 ∷ [])
 cr-alone [] e = refl
 cr-alone (b ∷ s) e = absurd (omega arith)
 
--- a raw command's text has at most one byte more
+-- which has at most one byte more
 pub cr-length : (s : List ℕ) → length (withCR s) ≤ length s + 1
-cr-length [] = omega arith
-cr-length (b ∷ []) = by-test (eqb b 13) (λ e. rw e (omega arith)) (λ e. rw e (omega arith))
-cr-length (b ∷ c ∷ s) = omega (arith, cr-length (c ∷ s))
+cr-length s = by-test (eqb (getD s (length s - 1) 0) 13) (λ e. rw e (omega arith)) (λ e. rw e (omega (arith, length-append s (13 ∷ []))))
 
 -- `isCommand` at a position
 raised-at : (s : List ℕ) (i : ℕ) → getD (map raised s) i 0 ≡ raised (getD s i 0)

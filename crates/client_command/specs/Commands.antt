@@ -2,18 +2,17 @@
 -- case, whatever the reply said. `ATH1` with its own CR does not count." "Initialisation: ATZ, one piece dropped, then ATE0, ATL0, ATS0, ATSP0, and ATH1 or
 -- ATH0."
 use mathlib.Core.Bool.{Bool, cond, _||_}
-use mathlib.Core.List.{List, [], _∷_, map}
-use Prim.Native.Nat.{ℕ, zero, suc}
+use mathlib.Core.List.{List, [], _∷_, _++_, map}
+use Prim.Native.Nat.{ℕ, _-_}
 use lib.Dec.{eqb}
+use lib.ListN.{length, getD}
 use Rattle.wire.specs.Text.{ascii, same, raised}
 use Rattle.client_command.specs.declared.FramingEffect.{FramingEffect}
 use Rattle.client_command.specs.declared.FramingEffect.the-variants as effect
 
--- a raw command's text
+-- a raw command's text, by its last byte
 abbrev pub withCR : List ℕ → List ℕ
-withCR [] = 13 ∷ []
-withCR (b ∷ []) = cond (eqb b 13) (13 ∷ []) (b ∷ 13 ∷ [])
-withCR (b ∷ c ∷ s) = b ∷ withCR (c ∷ s)
+withCR s = cond (eqb (getD s (length s - 1) 0) 13) s (s ++ (13 ∷ []))
 
 -- the command in capitals, compared whole
 abbrev pub isCommand : List ℕ → List ℕ → Bool
@@ -24,10 +23,6 @@ framingEffect command =
     cond (isCommand command (ascii "ATH1")) effect.On
     (cond (isCommand command (ascii "ATH0") || isCommand command (ascii "ATZ")) effect.Off effect.Kept)
 
--- the commands of the initialisation after ATZ, for framing on or off
+-- the commands of the initialisation after ATZ, by their place; the last is for framing on or off
 abbrev pub setupText : Bool → ℕ → List ℕ
-setupText framing zero = ascii "ATE0\r"
-setupText framing (suc zero) = ascii "ATL0\r"
-setupText framing (suc (suc zero)) = ascii "ATS0\r"
-setupText framing (suc (suc (suc zero))) = ascii "ATSP0\r"
-setupText framing (suc (suc (suc (suc k)))) = cond framing (ascii "ATH1\r") (ascii "ATH0\r")
+setupText framing k = getD (ascii "ATE0\r" ∷ ascii "ATL0\r" ∷ ascii "ATS0\r" ∷ ascii "ATSP0\r" ∷ []) k (cond framing (ascii "ATH1\r") (ascii "ATH0\r"))

@@ -34,10 +34,9 @@ same-length-2 c = search needs
 
 returns-2 : tie.Need-returns-2
 returns-2 c =
-    let at-if1 = c .before .before in
-    let at-put = at-if1 .before .before .before in
+    let at-put = c .before .before .before .before .before in
     let start = at-put .before .before .before .before in
-    rw (cr-there (start .args .command .now) (at-if1 .if1 .left) (c .if2 .taken)) (at-put .put .ensures)
+    rw (cr-there (start .args .command .now) (c .if2 .taken)) (at-put .put .ensures)
 
 put-byte-requires-2 : tie.Need-put-byte-requires-2
 put-byte-requires-2 c κs = search needs
@@ -49,10 +48,9 @@ returns-3 : tie.Need-returns-3
 returns-3 c =
     let at-put-byte2 = c .before .before in
     let at-if2 = at-put-byte2 .before .before in
-    let at-if1 = at-if2 .before .before in
-    let at-put = at-if1 .before .before .before in
+    let at-put = at-if2 .before .before .before .before .before in
     let start = at-put .before .before .before .before in
-    rw (cr-added (start .args .command .now) (at-if1 .if1 .left) (at-if2 .if2 .left)) (put-then (at-put .put .ensures) (at-put-byte2 .put-byte2 .ensures))
+    rw (cr-added (start .args .command .now) (at-if2 .if2 .left)) (put-then (at-put .put .ensures) (at-put-byte2 .put-byte2 .ensures))
 
 pub put-command-spec : {M : Type 1} → statement M
 put-command-spec =
