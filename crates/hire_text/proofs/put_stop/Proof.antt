@@ -10,6 +10,9 @@ enum-told c = search needs
 enum-known-answer : tie.Need-enum-known-answer
 enum-known-answer c = search needs
 
+number-requires : tie.Need-number-requires
+number-requires c κs = search needs
+
 put-refused-requires : tie.Need-put-refused-requires
 put-refused-requires c κs = search needs
 
@@ -21,10 +24,11 @@ same-length c = search needs
 
 returns-2 : tie.Need-returns-2
 returns-2 c =
-    let told = c .before .before in
-    rw (told .before .before .before .answer .given .1) (told .put-refused .ensures)
+    let put = c .before .before in
+    let number = put .before in
+    rw (number .before .before .before .answer .given .1) (rw (number .number .ensures) at (put .put-refused .ensures))
 
 pub put-stop-spec : {M : Type 1} → statement M
 put-stop-spec =
     tie.close
-    (tie.spec enum-told enum-known-answer put-refused-requires returns same-length returns-2)
+    (tie.spec enum-told enum-known-answer number-requires put-refused-requires returns same-length returns-2)
