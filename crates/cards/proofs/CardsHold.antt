@@ -27,7 +27,8 @@ use Rattle.client_session.specs.Start.{querySays}
 use Rattle.cards.specs.Cards.{cards, Hold}
 
 pub cards-hold : Hold cards
-unfolding has high isSpace raised hexDigit digit leading j1979 mode01Lengths groupBytes lineList valueFormat atKind lineText replyText canonical unless byteTaken byteSays bytesSay answerSays replySays queryText textLines textLine replyLines walked answerOrder querySays
+unfolding has high isSpace raised hexDigit digit leading j1979 mode01Lengths groupBytes lineList valueFormat atKind lineText replyText canonical
+    unless byteTaken byteSays bytesSay answerSays replySays queryText textLines textLine replyLines walked answerOrder querySays
 cards-hold = (refl, (refl, (refl, (refl, (refl, (refl, (refl, (refl, (refl, (refl, (refl, (refl, (refl, (refl, tt))))))))))))))
 
 -- card 13: six PIDs pass, seven get 2; byte 128 of a line is stored, the next gets 10

@@ -62,5 +62,6 @@ clientLog =
 
 client-log : storedOf (clientRun clientCalls (clientAt (freshClient true true) 0 (replicate 4096 0) (replicate 80 9) (replicate 60 9))) ≡
     storedAs 59 (speeds ++ replicate 4081 0) (values ++ replicate 67 9) (clientLog ++ (9 ∷ []))
-unfolding unless has high isSpace hexDigit digit leading j1979 mode01Lengths groupBytes valueFormat queryText textLines textLine replyLines walked answerOrder querySays replyTakes pieceSays finishSays calls
+unfolding unless has high isSpace hexDigit digit leading j1979 mode01Lengths groupBytes valueFormat queryText textLines textLine replyLines walked
+    answerOrder querySays replyTakes pieceSays finishSays calls
 client-log = refl

@@ -23,7 +23,12 @@ same-length-2 : tie.Need-same-length-2
 same-length-2 c = search needs
 
 returns : tie.Need-returns
-returns c = ap loggedOf (answered-is tt 0 (c .before .before .before .before .before .before .before .before .run .result .written) (c .before .before .before .before .run-code .ensures) (c .before .before .put-call .ensures) ∙ ap (runNoted (c .before .before .before .before .before .before .before .before .before .before .before .before .before .before .args .log .now)) (c .before .before .before .before .before .before .before .before .run .ensures))
+returns c =
+    let args = c .before .before .before .before .before .before .before .before .before .before .before .before .before .before .args in
+    let run = c .before .before .before .before .before .before .before .before .run in
+    let run-code = c .before .before .before .before .run-code in
+    ap loggedOf (answered-is tt 0 (run .result .written) (run-code .ensures) (c .before .before .put-call .ensures) ∙ ap (runNoted (args .log .now))
+        (run .ensures))
 
 pub driver-bench-spec : {M : Type 1} → statement M
 driver-bench-spec =

@@ -36,7 +36,9 @@ mul-at-most : tie.Need-mul-at-most
 mul-at-most c = omega (arith, c .shared-slice-known3 .given (c .before .before .before .before .before .args .from + 2))
 
 add-at-most : tie.Need-add-at-most
-add-at-most c = omega (arith, c .shared-slice-known3 .given (c .before .before .before .before .before .args .from + 1), c .shared-slice-known3 .given (c .before .before .before .before .before .args .from + 2))
+add-at-most c =
+    let args = c .before .before .before .before .before .args in
+    omega (arith, c .shared-slice-known3 .given (args .from + 1), c .shared-slice-known3 .given (args .from + 2))
 
 sub-at-most : tie.Need-sub-at-most
 sub-at-most c = search needs

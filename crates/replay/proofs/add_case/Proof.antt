@@ -14,13 +14,19 @@ enum-known-verdict : tie.Need-enum-known-verdict
 enum-known-verdict c = search needs
 
 returns : tie.Need-returns
-returns c = tallied-first (c .before .before .before .before .before .before .args .before) (c .before .before .before .before .before .before .args .verdict) (c .before .before .before .verdict .given .1) (c .if1 .taken)
+returns c =
+    let args = c .before .before .before .before .before .before .args in
+    let verdict = c .before .before .before .verdict in
+    tallied-first (args .before) (args .verdict) (verdict .given .1) (c .if1 .taken)
 
 returns-2 : tie.Need-returns-2
 returns-2 c = tallied-same (c .before .before .before .args .before) (c .before .before .before .args .verdict) (c .enum-told .given .1)
 
 returns-3 : tie.Need-returns-3
-returns-3 c = tallied-other (c .before .before .before .before .before .before .args .before) (c .before .before .before .before .before .before .args .verdict) (c .before .before .before .verdict .given .1) (c .if1 .left)
+returns-3 c =
+    let args = c .before .before .before .before .before .before .args in
+    let verdict = c .before .before .before .verdict in
+    tallied-other (args .before) (args .verdict) (verdict .given .1) (c .if1 .left)
 
 pub add-case-spec : {M : Type 1} → statement M
 add-case-spec =

@@ -37,7 +37,11 @@ loop-less : tie.Need-loop-less Inv-loop μ-loop
 loop-less c = search needs
 
 loop-again : tie.Need-loop-again Inv-loop μ-loop
-loop-again c = (search needs, agree-next _ _ _ (c .before .before .before .before .loop-test .taken) (c .before .before .before .if1 .left) (c .if2 .left) ∙ c .before .before .before .before .before .loop .inv .1)
+loop-again c =
+    let loop = c .before .before .before .before .before .loop in
+    let loop-test = c .before .before .before .before .loop-test in
+    let if1 = c .before .before .before .if1 in
+    (search needs, agree-next _ _ _ (loop-test .taken) (if1 .left) (c .if2 .left) ∙ loop .inv .1)
 
 returns-3 : tie.Need-returns-3 Inv-loop μ-loop
 returns-3 c = stop-end _ _ _ (c .loop-test .left) ∙ c .before .loop .inv .1

@@ -16,7 +16,10 @@ agreeing-requires : tie.Need-agreeing-requires
 agreeing-requires c κs = search needs
 
 returns-2 : tie.Need-returns-2
-returns-2 c = ap (λ n. verdict.Differs n) (c .agreeing .ensures) ∙ judged-differs (c .before .before .before .before .before .args .ours .now) (c .before .before .before .before .before .args .stored .now) (sym (c .before .if1 .left) ∙ c .before .before .same .ensures)
+returns-2 c =
+    let args = c .before .before .before .before .before .args in
+    ap (λ n. verdict.Differs n) (c .agreeing .ensures) ∙ judged-differs (args .ours .now) (args .stored .now)
+        (sym (c .before .if1 .left) ∙ c .before .before .same .ensures)
 
 pub judge-spec : {M : Type 1} → statement M
 judge-spec = tie.close (tie.spec same-requires returns agreeing-requires returns-2)

@@ -10,7 +10,8 @@ use Rattle.replay.proofs.main.Statement.{statement}
 use Rattle.replay.proofs.main.Tie as tie
 
 abbrev Inv-loop : tie.InvT-loop
-Inv-loop list n store₀ out₀ log₀ under₀ at₀ store out log under at = (at ≤ n) × (n ≤ 196608) × (length list ≡ 196608) × (length store ≡ 4096) × (length out ≡ 65536) × (length log ≡ 65536) × (under .cases ≤ at)
+Inv-loop list n store₀ out₀ log₀ under₀ at₀ store out log under at = (at ≤ n) × (n ≤ 196608) × (length list ≡ 196608) × (length store ≡ 4096) ×
+    (length out ≡ 65536) × (length log ≡ 65536) × (under .cases ≤ at)
 
 abbrev μ-loop : tie.MeasureT-loop
 μ-loop list n store₀ out₀ log₀ under₀ at₀ store out log under at = n - at
@@ -79,7 +80,13 @@ loop-less-2 : tie.Need-loop-less-2 Inv-loop μ-loop
 loop-less-2 c = search needs
 
 loop-again-2 : tie.Need-loop-again-2 Inv-loop μ-loop
-loop-again-2 c = (search needs, search needs, search needs, search needs, search needs, search needs, omega (arith, ap (λ (t : Tally). t .cases) (c .add-case .ensures), tallied-cases (c .before .before .before .before .before .before .before .before .before .before .before .before .before .before .loop .under) (c .before .before .before .before .replay .result), c .before .before .before .before .before .before .before .before .before .before .before .before .before .before .loop .inv .6, c .before .before .before .before .before .before .before .before .before .before .before .read-entry .ensures .header, c .before .before .before .before .before .before .before .before .before .before .before .read-entry .ensures .pieces, c .before .before .before .before .before .before .before .before .before .before .before .read-entry .ensures .script, c .before .before .before .before .before .before .before .before .before .before .before .read-entry .ensures .stored))
+loop-again-2 c =
+    let loop = c .before .before .before .before .before .before .before .before .before .before .before .before .before .before .loop in
+    let read-entry = c .before .before .before .before .before .before .before .before .before .before .before .read-entry in
+    let replay = c .before .before .before .before .replay in
+    (search needs, search needs, search needs, search needs, search needs, search needs, omega
+        (arith, ap (λ (t : Tally). t .cases) (c .add-case .ensures), tallied-cases (loop .under) (replay .result), loop .inv .6, read-entry .ensures
+        .header, read-entry .ensures .pieces, read-entry .ensures .script, read-entry .ensures .stored))
 
 print-tally-requires : tie.Need-print-tally-requires Inv-loop μ-loop
 print-tally-requires c κs = search needs
