@@ -169,32 +169,25 @@ impl ClientSession {
         self
     }
 
-    // So many bytes of out are to be sent, with this or nothing under way. (The session is changed in place: a further call would copy it.)
-    fn ends(mut self, answer: ClientAnswer, written: usize, under: Under, got: usize) -> ClientStep
+    // So many bytes of out are to be sent, with this or nothing under way.
+    fn ends(self, answer: ClientAnswer, written: usize, under: Under, got: usize) -> ClientStep
         ensures { λ r. ⌜ Stepped (withUnder (client self) under got) answer written r ⌝ }
     {
-        let pending = Pending { under, got };
-        self.pending = pending;
         ClientStep {
             answer,
             written,
-            session: self,
+            session: self.moved(under, got),
         }
     }
 
     // So many bytes of out are this command, whose reply is awaited.
-    fn sends(mut self, command: Command, written: usize) -> ClientStep
+    fn sends(self, command: Command, written: usize) -> ClientStep
         ensures { λ r. ⌜ Stepped (withUnder (client self) (Under.Awaiting command) 0) ClientAnswer.Sent written r ⌝ }
     {
-        let pending = Pending {
-            under: Under::Awaiting(command),
-            got: 0,
-        };
-        self.pending = pending;
         ClientStep {
             answer: ClientAnswer::Sent,
             written,
-            session: self,
+            session: self.moved(Under::Awaiting(command), 0),
         }
     }
 
