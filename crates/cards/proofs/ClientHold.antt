@@ -15,13 +15,7 @@ use Rattle.cards.specs.Client.{clientExamples, inPieces}
 
 pub client-holds : AsExpected clientExamples
 unfolding unless raised has high hexDigit queryText framingEffect initSays commandSays querySays replyTakes pieceSays failureSays pieces delivered
-client-holds =
-    (refl, (refl, (refl, (refl,
-        (refl, (refl, (refl, (refl,
-        (refl, (refl, (refl, (refl,
-        (refl, (refl, (refl, (refl,
-        (refl, (refl, (refl, (refl,
-        (refl, (refl, (refl, (refl, (refl, (refl, (refl, (refl, (refl, (refl, (refl, (refl, (refl, tt)))))))))))))))))))))))))))))))))
+client-holds = (refl, (refl, (refl, (refl, (refl, (refl, (refl, (refl, (refl, (refl, (refl, (refl, (refl, (refl, (refl, (refl, (refl, (refl, (refl, (refl, (refl, (refl, (refl, (refl, (refl, (refl, (refl, (refl, (refl, (refl, (refl, (refl, (refl, tt)))))))))))))))))))))))))))))))))
 
 -- its pieces have 1 to 128 bytes each
 pub sized : Sized inPieces

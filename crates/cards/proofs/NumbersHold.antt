@@ -22,15 +22,7 @@ use Rattle.cards.specs.Numbers.{numbers, twoParts}
 
 pub numbers-hold : AsExpected numbers
 unfolding groupBytes groupAt lineList lineAt linesIn putLine putWhole valueFormat readRecord valueAt j1979 mode01Lengths script unless queryFormat queryAt queriesIn
-numbers-hold =
-    (refl, (refl, (refl, (refl,
-        (refl, (refl, (refl, (refl,
-        (refl, (refl, (refl, (refl,
-        (refl, (refl, (refl, (refl,
-        (refl, (refl, (refl, (refl,
-        (refl, (refl, (refl, (refl,
-        (refl, (refl, (refl, (refl,
-        (refl, (refl, (refl, (refl, (refl, (refl, (refl, (refl, (refl, (refl, (refl, (refl, (refl, (refl, tt))))))))))))))))))))))))))))))))))))))))))
+numbers-hold = (refl, (refl, (refl, (refl, (refl, (refl, (refl, (refl, (refl, (refl, (refl, (refl, (refl, (refl, (refl, (refl, (refl, (refl, (refl, (refl, (refl, (refl, (refl, (refl, (refl, (refl, (refl, (refl, (refl, (refl, (refl, (refl, (refl, (refl, (refl, (refl, (refl, (refl, (refl, (refl, (refl, (refl, tt))))))))))))))))))))))))))))))))))))))))))
 
 -- a record equals itself, and bytes that are no record equal nothing
 pub same-parts : SameRecord twoParts twoParts

@@ -16,9 +16,4 @@ use Rattle.cards.specs.Server.{server}
 
 pub server-holds : AsExpected server
 unfolding high isSpace raised hexDigit lineList atKind lineText replyText replied replySize canonical unless byteTaken byteSays bytesSay answerSays replySays rejectSays exchanged
-server-holds =
-    (refl, (refl, (refl, (refl,
-        (refl, (refl, (refl, (refl,
-        (refl, (refl, (refl, (refl,
-        (refl, (refl, (refl, (refl,
-        (refl, (refl, (refl, (refl, (refl, (refl, (refl, (refl, (refl, (refl, (refl, (refl, (refl, tt)))))))))))))))))))))))))))))
+server-holds = (refl, (refl, (refl, (refl, (refl, (refl, (refl, (refl, (refl, (refl, (refl, (refl, (refl, (refl, (refl, (refl, (refl, (refl, (refl, (refl, (refl, (refl, (refl, (refl, (refl, (refl, (refl, (refl, (refl, tt)))))))))))))))))))))))))))))

@@ -28,7 +28,7 @@ returns c =
     let run = c .before .before .before .before .before .before .before .before .run in
     let run-code = c .before .before .before .before .run-code in
     ap loggedOf (answered-is tt 0 (run .result .written) (run-code .ensures) (c .before .before .put-call .ensures) ∙ ap (runNoted (args .log .now))
-        (run .ensures))
+    (run .ensures))
 
 pub driver-bench-spec : {M : Type 1} → statement M
 driver-bench-spec =

@@ -31,12 +31,12 @@ same-length c = search needs
 returns-2 : tie.Need-returns-2
 returns-2 c =
     let args = c .before .before .before .before .before .before .before .before .before .before .before .before .before .before .before .before
-        .before .args in
+    .before .args in
     let put-byte = c .before .before .before .before .before .before .before .before .before .before .before .before .put-byte in
     let put-number = c .before .before .before .before .before .before .before .before .put-number in
     let at-most = c .before .before .before .before .before .at-most in
     rw (← take-within (args .written) _ (args .out .now) (at-most .ensures))
-        (put-then (put-byte .ensures) (put-then (put-number .ensures) (c .before .before .put-text .ensures)))
+    (put-then (put-byte .ensures) (put-then (put-number .ensures) (c .before .before .put-text .ensures)))
 
 pub put-call-spec : {M : Type 1} → statement M
 put-call-spec =

@@ -19,7 +19,7 @@ returns-2 : tie.Need-returns-2
 returns-2 c =
     let args = c .before .before .before .before .before .args in
     ap (λ n. verdict.Differs n) (c .agreeing .ensures) ∙ judged-differs (args .ours .now) (args .stored .now)
-        (sym (c .before .if1 .left) ∙ c .before .before .same .ensures)
+    (sym (c .before .if1 .left) ∙ c .before .before .same .ensures)
 
 pub judge-spec : {M : Type 1} → statement M
 judge-spec = tie.close (tie.spec same-requires returns agreeing-requires returns-2)

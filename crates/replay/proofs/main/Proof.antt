@@ -83,10 +83,25 @@ loop-again-2 : tie.Need-loop-again-2 Inv-loop μ-loop
 loop-again-2 c =
     let loop = c .before .before .before .before .before .before .before .before .before .before .before .before .before .before .loop in
     let read-entry = c .before .before .before .before .before .before .before .before .before .before .before .read-entry in
-    let replay = c .before .before .before .before .replay in
-    (search needs, search needs, search needs, search needs, search needs, search needs, omega
-        (arith, ap (λ (t : Tally). t .cases) (c .add-case .ensures), tallied-cases (loop .under) (replay .result), loop .inv .6, read-entry .ensures
-        .header, read-entry .ensures .pieces, read-entry .ensures .script, read-entry .ensures .stored))
+    let replay = c .before .before .before .before .replay in (
+      search needs,
+      search needs,
+      search needs,
+      search needs,
+      search needs,
+      search needs,
+      omega (
+        arith,
+        ap (λ (t : Tally). t .cases) (c .add-case .ensures),
+        tallied-cases (loop .under) (replay .result),
+        loop .inv .6,
+        read-entry .ensures
+            .header,
+        read-entry .ensures .pieces,
+        read-entry .ensures .script,
+        read-entry .ensures .stored,
+      ),
+    )
 
 print-tally-requires : tie.Need-print-tally-requires Inv-loop μ-loop
 print-tally-requires c κs = search needs
