@@ -26,7 +26,7 @@ use Rattle.client_session.specs.Piece.{replyTakes, pieceSays}
 use Rattle.client_session.specs.Finish.{finishSays}
 use Rattle.script.specs.Script.{queryFormat, script}
 use Rattle.bench.specs.Exchange.{exchanged}
-use Rattle.bench.specs.Deliver.{pieces, delivered}
+use Rattle.bench.specs.Deliver.{pieces}
 use Rattle.bench.specs.Run.{initialised, part, runSays}
 
 abbrev worked : List ℕ
@@ -45,5 +45,5 @@ examples :
     (runSays true [] 9 (worked ++ worked) ≡ record { answer = refused 6; parts = workedPart ∷ []; handed = ascii "010C1" ∷ ascii "010C1" ∷ [] }) ×
     (runSays true [] 2 (noData ++ noData) ≡ record { answer = result tt; parts = (0x00 ∷ []) ∷ (0x00 ∷ []) ∷ []; handed = ascii "010C" ∷ ascii "010C" ∷ [] }) ×
     (runSays true [] 9 (0x00 ∷ worked) ≡ record { answer = refused 5; parts = []; handed = [] })
-unfolding has high isSpace raised hexDigit digit leading j1979 mode01Lengths groupBytes lineList valueFormat atKind lineText replyText canonical unless byteTaken byteSays bytesSay answerSays replySays queryText textLines textLine replyLines walked answerOrder learnLength initSays querySays replyTakes pieceSays finishSays script queryFormat exchanged pieces delivered initialised part runSays
+unfolding has high isSpace raised hexDigit digit leading j1979 mode01Lengths groupBytes lineList valueFormat atKind lineText replyText canonical unless byteTaken byteSays bytesSay answerSays replySays queryText textLines textLine replyLines walked answerOrder learnLength initSays querySays replyTakes pieceSays finishSays script queryFormat exchanged pieces initialised part runSays
 examples = (refl, refl, refl, refl)
