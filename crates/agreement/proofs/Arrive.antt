@@ -26,7 +26,8 @@ use Rattle.client_session.proofs.PieceLaws.{takes-too-much, piece-joined}
 use Rattle.client_session.proofs.StoreLaws.{store-holds, reply-in}
 use Rattle.client_session.proofs.PiecesLaws as inPieces
 use Rattle.client_session.proofs.PiecesLaws.{Sized, Awaiting, Plainly, prompted, piece-more, piece-stored, awaiting-more, all-of-it}
-use Rattle.bench.specs.Deliver.{pieces, delivered}
+use Rattle.bench.specs.Deliver.{pieces}
+use Rattle.bench.specs.Steps.{delivered}
 use Rattle.bench.proofs.PiecesLaws.{pieces-sized, pieces-joined}
 use Rattle.bench.specs.Run.{sendRoom}
 

@@ -35,7 +35,7 @@ use Rattle.script.specs.Script.{Query, script}
 use Rattle.script.proofs.ScriptLaws.{script-numbers}
 use Rattle.bench.specs.Exchange.{Exchanged, exchanged}
 use Rattle.bench.specs.Run as run
-use Rattle.bench.specs.Run.{sendRoom, replyRoom, valuesRoom, Bench, Round, round, onward, later, startSays, Part, partOf, finished, part, asked, runSays, runRead, initialised}
+use Rattle.bench.specs.Run.{sendRoom, replyRoom, valuesRoom, Bench, Round, round, onward, later, startSays, Part, partOf, finished, part, asked, runSays, initialised}
 use Rattle.agreement.specs.Ends as ends
 use Rattle.agreement.specs.Ends.{Ends, too-long, malformed, small-buffer, too-much}
 use Rattle.agreement.proofs.Heard.{quiet, lastCommand, unspaced-short, heard, heard-again, heard-unknown}
@@ -217,15 +217,13 @@ fresh-quiet repeat ks =
     let m = t .between in
     record { turn = m .turn; size = m .size; last = m .last; short = rw (t .fresh) (omega arith); server = m .server }
 
-read-ends : (repeat : Bool) (ks : List ℕ) (room : ℕ) (qs : List Query) → AllReady qs → Ends (runRead repeat ks room (result qs) .answer)
-read-ends repeat ks room qs ok = rw (started (λ p. 0) repeat ks .answer) (asked-ends room (initialised repeat ks .bench) qs (fresh-quiet repeat ks) ok)
-
 -- a script that is refused gets 3 or 5
-by-script : (repeat : Bool) (ks : List ℕ) (room : ℕ) (s : List ℕ) → Bytes s → (a : Answer (List Query)) → script s ≡ a → Ends (runRead repeat ks room a .answer)
-by-script repeat ks room s b (refused n) e = ⊎-elim (λ three. rw three too-long) (λ five. rw five malformed) (script-numbers s n e)
-by-script repeat ks room s b (result qs) e = read-ends repeat ks room qs (script-ready s qs b e)
+by-script : (repeat : Bool) (ks : List ℕ) (room : ℕ) (s : List ℕ) → Bytes s → (a : Answer (List Query)) → script s ≡ a → Ends (runSays repeat ks room s .answer)
+unfolding runSays
+by-script repeat ks room s b (refused n) e = rw e (⊎-elim (λ three. rw three too-long) (λ five. rw five malformed) (script-numbers s n e))
+by-script repeat ks room s b (result qs) e =
+    rw (e, started (λ p. 0) repeat ks .answer) (asked-ends room (initialised repeat ks .bench) qs (fresh-quiet repeat ks) (script-ready s qs b e))
 
 -- "3, 5, then as it runs 8 or 6" (READING-01.md), on every script, which is bytes
 pub run-ends : (repeat : Bool) (ks : List ℕ) (room : ℕ) (s : List ℕ) → Bytes s → Ends (runSays repeat ks room s .answer)
-unfolding runSays
 run-ends repeat ks room s b = by-script repeat ks room s b (script s) refl

@@ -1,5 +1,5 @@
 -- A run of the demand's queries comes to what the script alone tells.
-use mathlib.Core.Path.{_≡_, refl, ap, _∙_}
+use mathlib.Core.Path.{_≡_, refl}
 use mathlib.Core.Bool.{Bool, true, false}
 use mathlib.Core.List.{List, [], _∷_}
 use Prim.Native.Nat.{ℕ, _-_}
@@ -14,7 +14,7 @@ use Rattle.reply.specs.Reply.{replyText}
 use Rattle.script.specs.Script.{Query, script}
 use Rattle.script.specs.Script.{InLimits}
 use Rattle.script.proofs.ScriptLaws.{AllAreBytes, script-limits, script-bytes}
-use Rattle.bench.specs.Run.{Bench, initialised, part, asked, runRead, runSays}
+use Rattle.bench.specs.Run.{Bench, initialised, part, asked, runSays}
 use Rattle.agreement.specs.Demand.{GoodQueries}
 use Rattle.agreement.proofs.Started.{Between, started}
 use Rattle.agreement.proofs.Asked.{Ready, Outcome, outcome}
@@ -65,4 +65,4 @@ pub run-told : (L : ℕ → ℕ) (repeat : Bool) (ks : List ℕ) (room : ℕ) (s
 unfolding runSays
 run-told L repeat ks room s qs e ok good =
     let t = started L repeat ks in
-    ap (runRead repeat ks room) e ∙ rw (t .answer, t .handed) (asked-told L room (initialised repeat ks .bench) qs (t .between) ok good)
+    rw (e, t .answer, t .handed) (asked-told L room (initialised repeat ks .bench) qs (t .between) ok good)

@@ -24,7 +24,7 @@ use Rattle.client_session.specs.Piece.{isReset, replyIn}
 use Rattle.client_session.proofs.StartLaws.{query-starts}
 use Rattle.client_session.proofs.PiecesLaws.{Awaiting, prompted}
 use Rattle.bench.specs.Exchange.{Exchanged, exchanged}
-use Rattle.bench.specs.Deliver.{delivered}
+use Rattle.bench.specs.Steps.{delivered}
 use Rattle.bench.specs.Run.{sendRoom, replyRoom, Bench, round, startSays}
 use Rattle.agreement.proofs.Heard.{quiet}
 use Rattle.agreement.proofs.Arrive.{reply-stands, plainly, no-question, reply-overflows}
@@ -71,6 +71,7 @@ module _ (pids : List ℕ) (count : ℕ) (ls : List Line) where
     -- the server replies with the lines
     module _ (x : Exchanged) (e : exchanged replyRoom (quiet server) command (linesBytes ls) ≡ x) (q : x .text ≡ reply) (w : Awaiting sendRoom k (asks c k) store []) where
       pub reply-fails : 4096 < length reply → round bench command (linesBytes ls) .answer ≡ refused 8
+      unfolding delivered
       reply-fails h =
           ap (λ (x : Exchanged). delivered sendRoom (asks c k) store ks (x .text) .said .answer) e ∙
           ap (λ r. delivered sendRoom (asks c k) store ks r .said .answer) q ∙

@@ -21,8 +21,8 @@ use Rattle.client_session.specs.Piece.{completed, pieceSays}
 use Rattle.client_session.proofs.PiecesLaws as pieces
 use Rattle.client_session.proofs.PiecesLaws.{Plainly, prompted}
 use Rattle.bench.specs.Exchange.{Exchanged, exchanged}
-use Rattle.bench.specs.Deliver.{Delivered, delivered}
-use Rattle.bench.specs.Run.{sendRoom, replyRoom, freshStore, Bench, Round, round, onward, reset, initialised}
+use Rattle.bench.specs.Run.{sendRoom, replyRoom, freshStore, Bench, Round, round, onward, reset, roundWith, initialised}
+use Rattle.bench.specs.Steps.{Delivered, delivered}
 use Rattle.agreement.proofs.Agree.{Agree, agree-fresh}
 use Rattle.agreement.proofs.Heard.{quiet, during, reset-heard, echo-off-heard, linefeeds-off-heard, spaces-off-heard, protocol-heard, headers-on-heard}
 use Rattle.agreement.proofs.Arrive.{arrives}
@@ -47,15 +47,11 @@ module _ (k : Command) (b : Bench) (command list : List ℕ) (x : Exchanged) (bo
 
   -- what an exchange and a delivery come to
   abbrev turned : Exchanged → Delivered → Round
-  turned x d = record {
-    answer = d .said .answer;
-    text = d .said .text;
-    bench = record { client = d .said .next; store = d .store; server = x .next; lengths = d .lengths };
-    handed = x .handed;
-  }
+  turned x d = roundWith (d .said) (d .store) (d .lengths) x
 
   pub settles : exchanged replyRoom (b .server) command list ≡ x → x .text ≡ prompted body → pieces.Awaiting sendRoom k (b .client) (b .store) [] → Plainly body →
       round b command list ≡ settled
+  unfolding delivered
   settles e q w ok =
       let a = arrives k (b .client) (b .store) (b .lengths) body w ok in
       (λ i. turned (e i) (delivered sendRoom (b .client) (b .store) (b .lengths) (e i .text))) ∙

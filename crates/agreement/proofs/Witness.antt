@@ -33,7 +33,7 @@ use Rattle.client_session.specs.Piece.{replyTakes, pieceSays}
 use Rattle.client_session.specs.Finish.{finishSays}
 use Rattle.script.specs.Script.{Query, query, queryFormat, script}
 use Rattle.bench.specs.Exchange.{exchanged}
-use Rattle.bench.specs.Deliver.{pieces, delivered}
+use Rattle.bench.specs.Deliver.{pieces}
 use Rattle.bench.specs.declared.RunAnswer.the-variants.{Complete}
 use Rattle.bench.specs.Run.{initialised, part, runSays, recorded, runLent}
 use Rattle.agreement.specs.Lines.{end, next, alone, table}
@@ -78,7 +78,7 @@ room = replicate 20 0
 first : Drive
 unfolding has high isSpace raised hexDigit digit leading j1979 mode01Lengths groupBytes lineList valueFormat atKind lineText replyText canonical
     unless byteTaken byteSays bytesSay answerSays replySays queryText textLines textLine replyLines walked answerOrder learnLength initSays querySays
-    replyTakes pieceSays finishSays script queryFormat exchanged pieces delivered initialised part runSays
+    replyTakes pieceSays finishSays script queryFormat exchanged pieces initialised part runSays
 first = record {
   repeat = true;
   pieces = [];
@@ -115,27 +115,27 @@ others low bytes reads ran = record {
 second : Drive
 unfolding has high isSpace raised hexDigit digit leading j1979 mode01Lengths groupBytes lineList valueFormat atKind lineText replyText canonical
     unless byteTaken byteSays bytesSay answerSays replySays queryText textLines textLine replyLines walked answerOrder learnLength initSays querySays
-    replyTakes pieceSays finishSays script queryFormat exchanged pieces delivered initialised part runSays
+    replyTakes pieceSays finishSays script queryFormat exchanged pieces initialised part runSays
 second = others 0xF8 refl refl refl
 
 third : Drive
 unfolding has high isSpace raised hexDigit digit leading j1979 mode01Lengths groupBytes lineList valueFormat atKind lineText replyText canonical
     unless byteTaken byteSays bytesSay answerSays replySays queryText textLines textLine replyLines walked answerOrder learnLength initSays querySays
-    replyTakes pieceSays finishSays script queryFormat exchanged pieces delivered initialised part runSays
+    replyTakes pieceSays finishSays script queryFormat exchanged pieces initialised part runSays
 third = others 0xF9 refl refl refl
 
 -- two parts stand in the first one's record, and its vehicle was handed the two queries' texts
 first-run : (partsStanding first ≡ 2) × (comesTo first .handed ≡ ascii "010C1" ∷ ascii "01E0" ∷ [])
 unfolding first readRecord has high isSpace raised hexDigit digit leading j1979 mode01Lengths groupBytes lineList valueFormat atKind lineText
     replyText canonical unless byteTaken byteSays bytesSay answerSays replySays queryText textLines textLine replyLines walked answerOrder learnLength
-    initSays querySays replyTakes pieceSays finishSays script queryFormat exchanged pieces delivered initialised part runSays
+    initSays querySays replyTakes pieceSays finishSays script queryFormat exchanged pieces initialised part runSays
 first-run = (refl, refl)
 
 -- the records of the first two are equal, since the vehicles gave the same
 same-records : SameRecord (hireRecord first) (hireRecord second)
 unfolding first second others has high isSpace raised hexDigit digit leading j1979 mode01Lengths groupBytes lineList valueFormat atKind lineText
     replyText canonical unless byteTaken byteSays bytesSay answerSays replySays queryText textLines textLine replyLines walked answerOrder learnLength
-    initSays querySays replyTakes pieceSays finishSays script queryFormat exchanged pieces delivered initialised part runSays
+    initSays querySays replyTakes pieceSays finishSays script queryFormat exchanged pieces initialised part runSays
 same-records = agreement first second .equal refl refl .1 ((λ p. refl), ((λ p. refl), tt))
 
 -- the low byte of the first value
@@ -147,7 +147,7 @@ lowOf (v ∷ vs) = getD (v .bytes) 1 0
 other-record : SameRecord (hireRecord first) (hireRecord third) → ⊥
 unfolding first third others has high isSpace raised hexDigit digit leading j1979 mode01Lengths groupBytes lineList valueFormat atKind lineText
     replyText canonical unless byteTaken byteSays bytesSay answerSays replySays queryText textLines textLine replyLines walked answerOrder learnLength
-    initSays querySays replyTakes pieceSays finishSays script queryFormat exchanged pieces delivered initialised part runSays
+    initSays querySays replyTakes pieceSays finishSays script queryFormat exchanged pieces initialised part runSays
 other-record h =
     let e : _≡_ {A = ℕ} 0xF8 0xF9 = ap lowOf (agreement first third .equal refl refl .0 h .0 0x0C) in
     absurd (omega arith)

@@ -4,13 +4,12 @@ use mathlib.Core.Bool.{true, false, not}
 use mathlib.Core.List.{List, [], _∷_}
 use Prim.Native.Nat.{ℕ, _≤_}
 use native.Mathlib.Omega.{arith}
-use lib.Dec.{eqb, ltb}
+use lib.Dec.{eqb}
 use lib.ListN.{length, take, drop, getD, length-take}
 use borrow.Author.Tests.{ltb-false, le-ltb, eq-eqb, ne-eqb}
 use Rattle.wire.specs.declared.Refusal.{Refusal}
 use Rattle.wire.specs.Answer.{Answer, result, refused, number, unless}
-use Rattle.wire.specs.Text.{high}
-use Rattle.wire.proofs.Cases.{by-test, from-no}
+use Rattle.wire.proofs.Cases.{from-no}
 use Rattle.wire.proofs.UnlessLaws.{unless-by}
 use Rattle.value.specs.Values.{Value, valuesBytes}
 use Rattle.reply_lines.specs.Decode.{replyLines}
@@ -19,10 +18,9 @@ use Rattle.reply_values.specs.Learn.{lengthsAfter}
 use Rattle.reply_values.specs.Read.{reading}
 use Rattle.reply_values.proofs.SizeLaws.{reply-size}
 use Rattle.server_session.specs.Session.{session}
-use Rattle.client_session.specs.declared.ClientAnswer.{ClientAnswer}
 use Rattle.client_session.specs.declared.ClientAnswer.the-variants.{Sent}
 use Rattle.client_session.specs.declared.ClientStep.{ClientStep}
-use Rattle.client_session.specs.Session.{Client, client, isComplete}
+use Rattle.client_session.specs.Session.{Client, client}
 use Rattle.client_session.specs.Call.{Progress, sent, ClientSaid, ClientServed, clientLent, clientAnswer, clientStep}
 use Rattle.client_session.specs.Start.{querySays}
 use Rattle.client_session.specs.Piece.{replyIn}
@@ -33,7 +31,7 @@ use Rattle.bench.specs.declared.Round as code-round
 use Rattle.bench.specs.declared.PartAnswer.{PartAnswer}
 use Rattle.bench.specs.declared.PartAnswer.the-variants as part
 use Rattle.bench.specs.declared.PartStep.{PartStep}
-use Rattle.bench.specs.Run.{Bench, Round, onward, sendRoom, replyRoom, valuesRoom, startSays, asking, partOf, finishing, finished}
+use Rattle.bench.specs.Run.{Bench, Round, Part, onward, sendRoom, replyRoom, valuesRoom, startSays, asking, partOf, finished}
 use Rattle.bench.specs.Steps.{benchOf, roundOf, Begins, RoundDoes, Comes, closed, partText, PartDoes}
 use Rattle.bench.proofs.RoundLaws.{lent-length, lent-text, lent-inside}
 
@@ -186,6 +184,9 @@ ask-does {s} {b} {begun} {r} {out} list lengths store o p q w d =
     record { answer = two .answer; bench = two .bench; room = two .room .1 }
 
 -- and finished; a finish goes by the answer and the bench alone
+abbrev finishing : Round → Answer Progress → Part
+finishing t a = finished (record { answer = a; text = t .text; bench = t .bench; handed = t .handed })
+
 finishing-held : (a : Answer Progress) (t u : Round) → t .bench ≡ u .bench → (finishing t a .answer ≡ finishing u a .answer) × (finishing t a .bench ≡ finishing u a .bench)
 finishing-held (refused n) t u e = (refl, e)
 finishing-held (result p) t u e = (

@@ -32,8 +32,8 @@ use Rattle.bench.specs.declared.BenchRun.{BenchRun}
 use Rattle.bench.specs.declared.RunAnswer.the-variants.{Complete, Refused}
 use Rattle.bench.specs.declared.PartAnswer.the-variants as part-answer
 use Rattle.bench.specs.declared.PartStep.{PartStep}
-use Rattle.bench.specs.Run.{Part, startSays, asking, finished, part, Run, after, sizeOf, standing, asked, runAnswer, Recorded, recorded, runLent}
-use Rattle.bench.specs.Steps.{benchOf, partText, PartDoes, IsScript, orNone, queriesOf, added, lentFrom}
+use Rattle.bench.specs.Run.{Part, startSays, asking, finished, part, Run, after, asked, runAnswer, Recorded, recorded, runLent}
+use Rattle.bench.specs.Steps.{benchOf, partText, PartDoes, IsScript, orNone, queriesOf, standing, added, lentFrom}
 
 -- what the host sees is its answer, its length and the buffer
 recorded-same : {x y : Recorded} → x .answer ≡ y .answer → x .written ≡ y .written → x .out ≡ y .out → x ≡ y
@@ -67,7 +67,7 @@ part-fits at buffer left end count text inside h p =
 -- ---- the others after a part
 
 -- after a number nothing follows
-number-last : (room at : ℕ) (buffer : List ℕ) (a : Answer (List ℕ)) (handed : List (List ℕ)) (others : Run) (n : ℕ) → added room a .answer ≡ refused n →
+number-last : (room at : ℕ) (buffer : List ℕ) (a : Answer (List ℕ)) (handed : List (List ℕ)) (others : List ℕ → Run) (n : ℕ) → added room a .answer ≡ refused n →
     lentFrom at (standing room a handed others) buffer ≡ lentFrom at (added room a) buffer
 number-last room at buffer (refused m) handed others n e = refl
 number-last room at buffer (result bytes) handed others n e =
@@ -81,14 +81,15 @@ after-lent at buffer bytes handed others fits =
     recorded-same refl (omega (arith, length-append bytes (joined (others .parts)))) (sym (put-then p (record { next = refl; bytes = refl }) .bytes))
 
 -- A part stands from position at to position end, and left is the record's buffer then.
-record Stands (at : ℕ) (buffer : List ℕ) (a : Answer (List ℕ)) (handed : List (List ℕ)) (others : Run) (end : ℕ) (left : List ℕ) : Type 0 where
-  size : end ≡ at + sizeOf a
+record Stands (at : ℕ) (buffer : List ℕ) (a : Answer (List ℕ)) (handed : List (List ℕ)) (others : List ℕ → Run) (end : ℕ) (left : List ℕ) : Type 0 where
+  bytes : List ℕ
+  size : end ≡ at + length bytes
   inside : end ≤ length left
   same-length : length left ≡ length buffer
-  follow : lentFrom at (standing (length buffer - at) a handed others) buffer ≡ lentFrom end others left
+  follow : lentFrom at (standing (length buffer - at) a handed others) buffer ≡ lentFrom end (others bytes) left
 
 -- after a part that stands the others follow
-part-stands : (at : ℕ) (buffer : List ℕ) (a : Answer (List ℕ)) (handed : List (List ℕ)) (others : Run) → at ≤ length buffer →
+part-stands : (at : ℕ) (buffer : List ℕ) (a : Answer (List ℕ)) (handed : List (List ℕ)) (others : List ℕ → Run) → at ≤ length buffer →
     added (length buffer - at) a .answer ≡ result tt →
     Stands at buffer a handed others (lentFrom at (added (length buffer - at) a) buffer .written) (lentFrom at (added (length buffer - at) a) buffer .out)
 part-stands at buffer (refused m) handed others inside e = from-no (cc)
@@ -100,10 +101,11 @@ part-stands at buffer (result bytes) handed others inside e =
     let same = length-sets buffer at bytes in
     rw (t, append-nil bytes)
     (record {
+      bytes = bytes;
       size = refl;
       inside = omega (arith, same);
       same-length = same;
-      follow = rw t (after-lent at buffer bytes handed others (omega arith));
+      follow = rw t (after-lent at buffer bytes handed (others bytes) (omega arith));
     }))
 
 -- ---- what is left of a run
@@ -172,8 +174,8 @@ module _ {whole : Recorded} {s lengths : List ℕ} {b : code.Bench} {place at : 
         (λ i. finished (asking (benchOf b store lengths) (startSays (client (b .client)) (its-pids i) (w .its-count i)) (w .its-lines i)))
         does
 
-    abbrev others : List Query → Run
-    others qs = asked (room - sizeOf answer) (benchOf (p .bench) store₁ lengths) qs
+    abbrev others : List Query → List ℕ → Run
+    others qs bytes = asked (room - length bytes) (benchOf (p .bench) store₁ lengths) qs
 
     one-more : (qs : List Query) → l .queries ≡ q ∷ qs → whole ≡ lentFrom at (standing room answer (says .handed) (others qs)) buffer
     one-more qs f =
@@ -181,7 +183,7 @@ module _ {whole : Recorded} {s lengths : List ℕ} {b : code.Bench} {place at : 
         let c = sym (does-part .bench) in
         l .rest ∙
         ap (λ qs. lentFrom at (asked room (benchOf b store lengths) qs) buffer) f ∙
-        (λ i. lentFrom at (standing room (a i) (says .handed) (asked (room - sizeOf (a i)) (c i) qs)) buffer)
+        (λ i. lentFrom at (standing room (a i) (says .handed) (λ bytes. asked (room - length bytes) (c i) qs)) buffer)
 
     -- a number ends the run
     pub left-refused : (refusal : Refusal) → r .answer ≡ Refused refusal → recorded r buffer₁ ≡ whole
@@ -196,9 +198,9 @@ module _ {whole : Recorded} {s lengths : List ℕ} {b : code.Bench} {place at : 
         let t = part-stands at buffer answer (says .handed) (others qs) (l .inside) (sym (ap (λ (x : Recorded). x .answer) e) ∙ ap runAnswer k) in
         let end = ap (λ (x : Recorded). x .written) e in
         let out = ap (λ (x : Recorded). x .out) e in
-        let size : r .written ≡ at + sizeOf answer = end ∙ t .size in
+        let size : r .written ≡ at + length (t .bytes) = end ∙ t .size in
         let same : length buffer₁ ≡ length buffer = ap length out ∙ t .same-length in
-        let fewer : room - sizeOf answer ≡ length buffer₁ - r .written = omega arith in
+        let fewer : room - length (t .bytes) ≡ length buffer₁ - r .written = omega arith in
         record {
           queries = qs;
           ahead = g;

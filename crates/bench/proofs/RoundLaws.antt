@@ -16,13 +16,12 @@ use Rattle.client_session.specs.Call.{ClientSaid, ClientServed, clientLent}
 use Rattle.bench.specs.declared.ExchangeStep.{ExchangeStep}
 use Rattle.bench.specs.declared.Delivery.{Delivery}
 use Rattle.bench.specs.Exchange.{Exchanged, exchanged}
-use Rattle.bench.specs.Deliver.{Delivered, delivered}
 use Rattle.bench.proofs.ExchangeLaws.{exchanged-fits, exchange-written}
 use Rattle.bench.proofs.DeliverLaws.{delivered-fits}
 use Rattle.bench.specs.declared.Bench as code
 use Rattle.bench.specs.declared.Round as code-round
 use Rattle.bench.specs.Run.{sendRoom, replyRoom, round}
-use Rattle.bench.specs.Steps.{ExchangeServed, exchangeStep, exchangeLent, DeliveryServed, deliveryStep, deliveryLent, benchOf, Back, RoundDoes}
+use Rattle.bench.specs.Steps.{ExchangeServed, exchangeStep, exchangeLent, DeliveryServed, Delivered, delivered, deliveryStep, deliveryLent, benchOf, Back, RoundDoes}
 
 -- a text that fits stands at the front of a buffer
 pub front : (buffer text : List ℕ) → length text ≤ length buffer → take (length text) (sets buffer 0 text) ≡ text
@@ -104,6 +103,7 @@ module _ (b : code.Bench) (command list lengths reply store out₁ reply₁ stor
       (reply-text (session (b .server)) command list reply reply₁ x heard ∙ ap (λ n. exchanged n (session (b .server)) command list .text) size)
 
   pub round-does : RoundDoes (round (benchOf b store lengths) command list) r out₁ reply₁ store₁ lengths
+  unfolding delivered
   round-does =
       let c = given .next ∙ ap (λ (v : Delivered). v .said .next) delivers-is in
       let k = given .kept ∙ ap (λ (v : Delivered). v .store) delivers-is in

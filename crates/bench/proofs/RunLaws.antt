@@ -1,18 +1,22 @@
 -- The run of a script: its number before anything runs, the initialisation's number, or its queries.
 use mathlib.Core.Path.{_≡_, _∙_}
 use mathlib.Core.Bool.{Bool}
-use mathlib.Core.List.{List}
+use mathlib.Core.List.{List, []}
 use Prim.Native.Nat.{ℕ}
 use lib.ListN.{length}
 use Rattle.wire.specs.declared.Refusal.{Refusal}
-use Rattle.wire.specs.Answer.{result, refused, number}
+use Rattle.wire.specs.Answer.{Answer, result, refused, number}
 use Rattle.client_session.specs.Call.{Progress, clientAnswer}
-use Rattle.script.specs.Script.{script}
+use Rattle.script.specs.Script.{Query, script}
 use Rattle.bench.specs.declared.RunAnswer.the-variants.{Refused}
 use Rattle.bench.specs.declared.BenchRun.{BenchRun}
 use Rattle.bench.specs.declared.Round as code-round
-use Rattle.bench.specs.Run.{Run, asked, begun, initialised, runSays, recorded, runLent}
+use Rattle.bench.specs.Run.{Round, Run, ifResult, ended, after, asked, initialised, runSays, recorded, runLent}
 use Rattle.bench.specs.Steps.{benchOf, Comes, IsScript, queriesOf}
+
+-- by what the initialisation came to
+abbrev begun : ℕ → Round → Answer Progress → List Query → Run
+begun room t a qs = ifResult a (λ n. ended n (t .handed)) λ p. after [] (t .handed) (asked room (t .bench) qs)
 
 module _ (repeat : Bool) (lengths s buffer : List ℕ) where
   abbrev says : Run

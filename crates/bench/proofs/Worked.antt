@@ -26,7 +26,7 @@ use Rattle.client_session.specs.Piece.{replyTakes, pieceSays}
 use Rattle.client_session.specs.Finish.{finishSays}
 use Rattle.script.specs.Script.{queryFormat, script}
 use Rattle.bench.specs.Exchange.{exchanged}
-use Rattle.bench.specs.Deliver.{pieces, delivered}
+use Rattle.bench.specs.Deliver.{pieces}
 use Rattle.bench.specs.Run.{initialised, part, runSays}
 
 abbrev worked : List ℕ
@@ -47,5 +47,5 @@ examples :
     (runSays true [] 9 (0x00 ∷ worked) ≡ record { answer = refused 5; parts = []; handed = [] })
 unfolding has high isSpace raised hexDigit digit leading j1979 mode01Lengths groupBytes lineList valueFormat atKind lineText replyText canonical
     unless byteTaken byteSays bytesSay answerSays replySays queryText textLines textLine replyLines walked answerOrder learnLength initSays querySays
-    replyTakes pieceSays finishSays script queryFormat exchanged pieces delivered initialised part runSays
+    replyTakes pieceSays finishSays script queryFormat exchanged pieces initialised part runSays
 examples = (refl, refl, refl, refl)

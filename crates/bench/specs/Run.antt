@@ -7,7 +7,7 @@ use mathlib.Core.Bool.{Bool, true, false, not, cond}
 use mathlib.Core.List.{List, [], _∷_, _++_}
 use Prim.Native.Nat.{ℕ, zero, suc, _-_}
 use lib.Dec.{eqb, ltb}
-use lib.ListN.{length, replicate}
+use lib.ListN.{length, drop, replicate}
 use lib.Seq.{sets}
 use Rattle.wire.specs.Answer.{Answer, result, refused, number}
 use Rattle.wire.specs.Text.{joined}
@@ -18,13 +18,19 @@ use Rattle.client_session.specs.Session.{Client, freshClient}
 use Rattle.client_session.specs.Call.{Progress, sent, awaited, over, complete, values, valueCount, ClientSaid}
 use Rattle.client_session.specs.Start.{initSays, querySays}
 use Rattle.client_session.specs.Piece.{pieceSays, storeAfter}
+use Rattle.client_session.specs.Pieces.{fed}
 use Rattle.client_session.specs.Finish.{finishSays}
 use Rattle.script.specs.Script.{Query, script}
 use Rattle.bench.specs.Exchange.{Exchanged, exchanged}
-use Rattle.bench.specs.Deliver.{Delivered, delivered}
+use Rattle.bench.specs.Deliver.{pieces}
 use Rattle.bench.specs.declared.RunAnswer.{RunAnswer}
 use Rattle.bench.specs.declared.RunAnswer.the-variants as answer
 use Rattle.bench.specs.declared.BenchRun.{BenchRun}
+
+-- an answer, by whether it has a number
+abbrev pub ifResult : {A X : Type 0} → Answer A → (ℕ → X) → (A → X) → X
+ifResult (result a) refuse say = say a
+ifResult (refused n) refuse say = refuse n
 
 -- ---- the buffers of the run, large enough for all that a script can ask for
 
@@ -61,17 +67,19 @@ pub record Round : Type 0 where
   pub bench : Bench
   pub handed : List (List ℕ)
 
--- the client's bytes go to the server, and all that it sends for them comes back in pieces; list is the line list of the query under way
+-- what was said to the client, its store and the lengths that are left, after an exchange
+abbrev pub roundWith : ClientSaid → List ℕ → List ℕ → Exchanged → Round
+roundWith d store ks x =
+    record { answer = d .answer; text = d .text; bench = record { client = d .next; store = store; server = x .next; lengths = ks }; handed = x .handed }
+
+-- The client's bytes go to the server, and all that it sends for them comes back in pieces; list is the line list of the query under way. Each piece that is given
+-- uses up a length; nothing is given past the piece that completes the reply or gets a number.
 abbrev pub round : Bench → List ℕ → List ℕ → Round
 round b command list =
     let x = exchanged replyRoom (b .server) command list in
-    let d = delivered sendRoom (b .client) (b .store) (b .lengths) (x .text) in
-    record {
-      answer = d .said .answer;
-      text = d .said .text;
-      bench = record { client = d .said .next; store = d .store; server = x .next; lengths = d .lengths };
-      handed = x .handed;
-    }
+    let ps = pieces (b .lengths) (x .text) in
+    let f = fed sendRoom (b .client) (b .store) ps in
+    roundWith (f .said) (f .store) (drop (length ps - length (f .left)) (b .lengths)) x
 
 -- the same with some commands handed out before
 abbrev pub later : List (List ℕ) → Round → Round
@@ -95,14 +103,7 @@ onward (suc n) t list = cond (isSent (t .answer)) (later (t .handed) (onward n (
 
 -- "the ATZ echo and answer arriving as one piece" (demand 3)
 abbrev pub reset : ClientSaid → Exchanged → List ℕ → Round
-reset i x lengths =
-    let d = pieceSays sendRoom (i .next) (x .text) freshStore in
-    record {
-      answer = d .answer;
-      text = d .text;
-      bench = record { client = d .next; store = storeAfter (i .next) (d .answer) (x .text) freshStore; server = x .next; lengths = lengths };
-      handed = x .handed;
-    }
+reset i x lengths = let d = pieceSays sendRoom (i .next) (x .text) freshStore in roundWith d (storeAfter (i .next) (d .answer) (x .text) freshStore) lengths x
 
 -- ATZ, and then ATE0, ATL0, ATS0, ATSP0 and ATH1
 unfoldable pub initialised : Bool → List ℕ → Round
@@ -116,10 +117,12 @@ initialised repeat lengths =
 abbrev pub startSays : Client → List ℕ → ℕ → ClientSaid
 startSays c pids count = querySays sendRoom c pids count (not (eqb (length pids) 1))
 
+abbrev pub withClient : Bench → Client → Bench
+withClient b c = record { client = c; store = b .store; server = b .server; lengths = b .lengths }
+
 -- the query is started; a repeat that meets `?` is followed by the query in full
 abbrev pub asking : Bench → ClientSaid → List ℕ → Round
-asking b s list =
-    onward 1 (round (record { client = s .next; store = b .store; server = b .server; lengths = b .lengths }) (s .text) list) list
+asking b s list = onward 1 (round (withClient b (s .next)) (s .text) list) list
 
 -- A query's part of the record or the number that ends the run, where the run then stands, and the OBD commands handed out.
 pub record Part : Type 0 where
@@ -129,22 +132,14 @@ pub record Part : Type 0 where
 
 -- "the number of values as a group number and the values"
 abbrev pub partOf : Answer Progress → List ℕ → Answer (List ℕ)
-partOf (refused n) text = refused n
-partOf (result p) text = result (groupBytes (valueCount p) ++ text)
+partOf a text = ifResult a refused λ p. result (groupBytes (valueCount p) ++ text)
 
--- by what the query's reply said: the query is finished
-abbrev pub finishing : Round → Answer Progress → Part
-finishing t (refused n) = record { answer = refused n; bench = t .bench; handed = t .handed }
-finishing t (result p) =
-    let f = finishSays valuesRoom (t .bench .client) (t .bench .store) in
-    record {
-      answer = partOf (f .answer) (f .text);
-      bench = record { client = f .next; store = t .bench .store; server = t .bench .server; lengths = t .bench .lengths };
-      handed = t .handed;
-    }
-
+-- the query is finished, unless its reply got a number
 abbrev pub finished : Round → Part
-finished t = finishing t (t .answer)
+finished t =
+    let f = finishSays valuesRoom (t .bench .client) (t .bench .store) in
+    ifResult (t .answer) (λ n. record { answer = refused n; bench = t .bench; handed = t .handed }) λ p.
+    record { answer = partOf (f .answer) (f .text); bench = withClient (t .bench) (f .next); handed = t .handed }
 
 unfoldable pub part : Bench → Query → Part
 part b q = finished (asking b (startSays (b .client) (q .pids) (q .count)) (linesBytes (q .lines)))
@@ -165,39 +160,22 @@ ended n handed = record { answer = refused n; parts = []; handed = handed }
 abbrev pub after : List (List ℕ) → List (List ℕ) → Run → Run
 after parts handed r = record { answer = r .answer; parts = parts ++ r .parts; handed = handed ++ r .handed }
 
-abbrev pub sizeOf : Answer (List ℕ) → ℕ
-sizeOf (refused n) = 0
-sizeOf (result bytes) = length bytes
-
--- a part stands if the record has room for it, and then the others follow
-abbrev pub standing : ℕ → Answer (List ℕ) → List (List ℕ) → Run → Run
-standing room (refused n) handed others = ended n handed
-standing room (result bytes) handed others = cond (ltb room (length bytes)) (ended 6 handed) (after (bytes ∷ []) handed others)
-
--- queries one after the other, with the record's room that is left
+-- queries one after the other, with the record's room that is left: a part stands if there is room for it, and then the others follow
 abbrev pub asked : ℕ → Bench → List Query → Run
 asked room b [] = record { answer = result tt; parts = []; handed = [] }
 asked room b (q ∷ qs) =
     let p = part b q in
-    standing room (p .answer) (p .handed) (asked (room - sizeOf (p .answer)) (p .bench) qs)
+    ifResult (p .answer) (λ n. ended n (p .handed)) λ bytes.
+    cond (ltb room (length bytes)) (ended 6 (p .handed)) (after (bytes ∷ []) (p .handed) (asked (room - length bytes) (p .bench) qs))
 
 -- ---- the run
 
--- by what the initialisation came to
-abbrev pub begun : ℕ → Round → Answer Progress → List Query → Run
-begun room t (refused n) qs = ended n (t .handed)
-begun room t (result p) qs = after [] (t .handed) (asked room (t .bench) qs)
-
-abbrev pub runQueries : Bool → List ℕ → ℕ → List Query → Run
-runQueries repeat lengths room qs = let t = initialised repeat lengths in begun room t (t .answer) qs
-
-abbrev pub runRead : Bool → List ℕ → ℕ → Answer (List Query) → Run
-runRead repeat lengths room (refused n) = ended n []
-runRead repeat lengths room (result qs) = runQueries repeat lengths room qs
-
 -- a run of a script, with repeat on or off, the lent piece lengths, and a record buffer of room bytes
 unfoldable pub runSays : Bool → List ℕ → ℕ → List ℕ → Run
-runSays repeat lengths room s = runRead repeat lengths room (script s)
+runSays repeat lengths room s =
+    let t = initialised repeat lengths in
+    ifResult (script s) (λ n. ended n []) λ qs.
+    ifResult (t .answer) (λ n. ended n (t .handed)) λ p. after [] (t .handed) (asked room (t .bench) qs)
 
 -- the cases of RunAnswer
 abbrev pub runAnswer : RunAnswer → Answer (Unit {0})

@@ -1,8 +1,9 @@
 -- What the private steps of the code do. No public contract cites these.
 use mathlib.Core.Path.{_≡_}
-use mathlib.Core.Bool.{Bool, true}
-use mathlib.Core.List.{List, [], _++_}
-use Prim.Native.Nat.{ℕ, _+_, _≤_}
+use mathlib.Core.Bool.{Bool, true, cond}
+use mathlib.Core.List.{List, [], _∷_, _++_}
+use Prim.Native.Nat.{ℕ, _+_, _-_, _≤_}
+use lib.Dec.{ltb}
 use lib.ListN.{length, take, drop}
 use lib.Seq.{sets}
 use Rattle.wire.specs.Answer.{Answer, result, refused, number}
@@ -10,22 +11,21 @@ use Rattle.wire.specs.Text.{joined}
 use Rattle.group.specs.Group.{groupBytes}
 use Rattle.server_session.specs.declared.ServerSession.{ServerSession}
 use Rattle.server_session.specs.Session.{Session, session, freshSession}
-use Rattle.client_session.specs.declared.ClientStep.{ClientStep}
-use Rattle.client_session.specs.Session.{client, freshClient}
+use Rattle.client_session.specs.Session.{Client, client, freshClient}
 use Rattle.client_session.specs.Call.{sent, complete, ClientSaid, ClientServed, clientLent, clientAnswer, clientStep}
 use Rattle.client_session.specs.Start.{initSays}
-use Rattle.client_session.specs.Piece.{storeAfter}
+use Rattle.client_session.specs.Pieces.{fed}
 use Rattle.bench.specs.declared.Delivery.{Delivery}
 use Rattle.bench.specs.declared.ExchangeStep.{ExchangeStep}
 use Rattle.bench.specs.Exchange.{Exchanged, exchanged}
-use Rattle.bench.specs.Deliver.{Delivered}
+use Rattle.bench.specs.Deliver.{pieces}
 use Rattle.script.specs.Script.{Query, script}
 use Rattle.bench.specs.declared.Bench as code
 use Rattle.bench.specs.declared.PartAnswer.{PartAnswer}
 use Rattle.bench.specs.declared.PartAnswer.the-variants as part
 use Rattle.bench.specs.declared.PartStep.{PartStep}
 use Rattle.bench.specs.declared.Round as code-round
-use Rattle.bench.specs.Run.{Bench, Round, Part, Run, Recorded, sendRoom, replyRoom, reset, finished, standing}
+use Rattle.bench.specs.Run.{Bench, Round, Part, Run, Recorded, sendRoom, replyRoom, reset, finished, ifResult, ended, after}
 
 -- An exchange as the code has it: how many bytes stand in the lent out buffer, the next session, and the buffer.
 pub record ExchangeServed : Type 0 where
@@ -38,6 +38,18 @@ exchangeStep r out = record { written = r .written; next = session (r .session);
 
 abbrev pub exchangeLent : Exchanged → List ℕ → ExchangeServed
 exchangeLent x out = record { written = length (x .text); next = x .next; out = sets out 0 (x .text) }
+
+-- What a delivery comes to: what the last piece that was given says, the client's reply store, and the piece lengths that are left.
+pub record Delivered : Type 0 where
+  pub said : ClientSaid
+  pub store : List ℕ
+  pub lengths : List ℕ
+
+-- each piece that is given uses up a length; nothing is given past the piece that completes the reply or gets a number
+unfoldable pub delivered : ℕ → Client → List ℕ → List ℕ → List ℕ → Delivered
+delivered room c store ks r =
+    let f = fed room c store (pieces ks r) in
+    record { said = f .said; store = f .store; lengths = drop (length (pieces ks r) - length (f .left)) ks }
 
 -- A delivery as the code has it, where ks are all piece lengths.
 pub record DeliveryServed : Type 0 where
@@ -146,9 +158,14 @@ orNone (refused n) = []
 abbrev pub queriesOf : List ℕ → List Query
 queriesOf s = orNone (script s)
 
+-- a part in the record's room, and the others after it
+abbrev pub standing : ℕ → Answer (List ℕ) → List (List ℕ) → (List ℕ → Run) → Run
+standing room a handed others =
+    ifResult a (λ n. ended n handed) λ bytes. cond (ltb room (length bytes)) (ended 6 handed) (after (bytes ∷ []) handed (others bytes))
+
 -- a query's part in what is left of the record's room, as if no other followed
 abbrev pub added : ℕ → Answer (List ℕ) → Run
-added room a = standing room a [] (record { answer = result tt; parts = []; handed = [] })
+added room a = standing room a [] (λ bytes. record { answer = result tt; parts = []; handed = [] })
 
 -- the parts of a run that stand from position at on
 abbrev pub lentFrom : ℕ → Run → List ℕ → Recorded

@@ -16,9 +16,8 @@ ghost use Rattle.client_session.specs.Session.{client, freshClient};
 ghost use Rattle.client_session.specs.Call.{clientLent, clientAnswer, clientStep};
 ghost use Rattle.client_session.specs.Start.{initSays};
 ghost use Rattle.client_session.specs.Piece.{pieceSays, storeAfter};
-ghost use Rattle.bench.specs.Deliver.{delivered};
 ghost use Rattle.bench.specs.Run.{sendRoom, replyRoom, freshStore, round, isSent, onward, initialised};
-ghost use Rattle.bench.specs.Steps.{benchOf, roundOf, resetFresh, Room, FreshHears, Back, OnePiece, RoundDoes, Comes};
+ghost use Rattle.bench.specs.Steps.{delivered, benchOf, roundOf, resetFresh, Room, FreshHears, Back, OnePiece, RoundDoes, Comes};
 
 // What the server sent goes back to the client in pieces.
 fn back(

@@ -9,7 +9,8 @@ use Rattle.client_command.specs.Commands.{framingEffect}
 use Rattle.client_session.specs.Start.{initSays, commandSays, querySays}
 use Rattle.client_session.specs.Piece.{replyTakes, pieceSays, failureSays}
 use Rattle.client_session.proofs.PiecesLaws.{Sized}
-use Rattle.bench.specs.Deliver.{pieces, delivered}
+use Rattle.bench.specs.Deliver.{pieces}
+use Rattle.bench.specs.Steps.{delivered}
 use Rattle.cards.specs.Example.{AsExpected}
 use Rattle.cards.specs.Client.{clientExamples, inPieces}
 

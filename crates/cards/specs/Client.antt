@@ -21,8 +21,8 @@ use Rattle.client_session.specs.Call.{sent, awaited, over, complete, values, Cl
 use Rattle.client_session.specs.Start.{initSays, commandSays, querySays}
 use Rattle.client_session.specs.Piece.{pieceSays, storeAfter, failureSays}
 use Rattle.client_session.specs.Pieces.{fed}
-use Rattle.bench.specs.Deliver.{pieces, delivered}
-use Rattle.bench.specs.Steps.{deliveryStep, deliveryLent}
+use Rattle.bench.specs.Deliver.{pieces}
+use Rattle.bench.specs.Steps.{delivered, deliveryStep, deliveryLent}
 use Rattle.cards.specs.Example.{Example, example}
 
 abbrev pub emptyStore : List ℕ

@@ -1,4 +1,5 @@
 -- The parts that stand in a run's record fit its buffer, and each is read back as one part. So the record's bytes tell the parts.
+use mathlib.Core.Path.{_≡_, refl}
 use mathlib.Core.Bool.{Bool}
 use mathlib.Core.List.{List, [], _∷_, _++_}
 use Prim.Native.Nat.{ℕ, _-_, _≤_}
@@ -7,7 +8,7 @@ use lib.Dec.{ltb}
 use lib.ListN.{length, length-append}
 use borrow.Author.Tests.{ltb-false}
 use Rattle.wire.specs.Answer.{Answer, result, refused}
-use Rattle.wire.specs.Text.{high, joined}
+use Rattle.wire.specs.Text.{joined}
 use Rattle.wire.proofs.Cases.{by-test}
 use Rattle.wire.proofs.UnlessLaws.{unless-by}
 use Rattle.group.specs.Group.{groupBytes}
@@ -25,7 +26,8 @@ use Rattle.client_session.specs.Call.{Progress, valueCount, ClientSaid}
 use Rattle.client_session.specs.Piece.{replyIn}
 use Rattle.client_session.specs.Finish.{question, givesValues, finishSays}
 use Rattle.script.specs.Script.{Query, script}
-use Rattle.bench.specs.Run.{valuesRoom, Bench, Round, initialised, startSays, asking, partOf, finishing, part, Run, sizeOf, standing, asked, begun, runRead, runSays}
+use Rattle.bench.specs.Run.{valuesRoom, Bench, initialised, startSays, asking, partOf, finished, part, Run, ifResult, ended, after, asked, runSays}
+use Rattle.bench.specs.Steps.{standing}
 use Rattle.hire_text.specs.Steps.{IsPart, AreParts}
 
 -- ---- a query's part, from any sessions
@@ -63,15 +65,15 @@ part-of : (a : Answer Progress) (text : List ℕ) → AnswersPart a text → Ans
 part-of (refused n) text h = tt
 part-of (result p) text h = h
 
-finishing-part : (t : Round) (a : Answer Progress) → AnswerPart (finishing t a .answer)
-finishing-part t (refused n) = tt
-finishing-part t (result p) =
-    let f = finishSays valuesRoom (t .bench .client) (t .bench .store) in
-    part-of (f .answer) (f .text) (finish-part valuesRoom (t .bench .client) (t .bench .store))
+finished-part : (a : Answer Progress) (text : List ℕ) (b : Bench) (handed : List (List ℕ)) →
+    AnswerPart (finished (record { answer = a; text = text; bench = b; handed = handed }) .answer)
+finished-part (refused n) text b handed = tt
+finished-part (result p) text b handed =
+    let f = finishSays valuesRoom (b .client) (b .store) in part-of (f .answer) (f .text) (finish-part valuesRoom (b .client) (b .store))
 
 query-part : (b : Bench) (q : Query) → AnswerPart (part b q .answer)
 unfolding part
-query-part b q = let t = asking b (startSays (b .client) (q .pids) (q .count)) (linesBytes (q .lines)) in finishing-part t (t .answer)
+query-part b q = let t = asking b (startSays (b .client) (q .pids) (q .count)) (linesBytes (q .lines)) in finished-part (t .answer) (t .text) (t .bench) (t .handed)
 
 -- ---- the parts of a run
 
@@ -82,7 +84,7 @@ record Stand (room : ℕ) (parts : List (List ℕ)) : Type 0 where
 none-stands : (room : ℕ) → Stand room []
 none-stands room = record { fits = omega arith; are = tt }
 
-one-stands : (room : ℕ) (a : Answer (List ℕ)) (handed : List (List ℕ)) (others : Run) → AnswerPart a → Stand (room - sizeOf a) (others .parts) →
+one-stands : (room : ℕ) (a : Answer (List ℕ)) (handed : List (List ℕ)) (others : List ℕ → Run) → AnswerPart a → ((bytes : List ℕ) → Stand (room - length bytes) (others bytes .parts)) →
     Stand room (standing room a handed others .parts)
 one-stands room (refused n) handed others h s = none-stands room
 one-stands room (result bytes) handed others h s =
@@ -90,29 +92,29 @@ one-stands room (result bytes) handed others h s =
     (λ e. rw e (none-stands room))
     (λ e.
     let few = ltb-false room (length bytes) e in
-    rw e (record { fits = omega (arith, length-append bytes (joined (others .parts)), s .fits); are = (h, s .are) }))
+    rw e (record { fits = omega (arith, length-append bytes (joined (others bytes .parts)), s bytes .fits); are = (h, s bytes .are) }))
 
 asked-stand : (room : ℕ) (b : Bench) (qs : List Query) → Stand room (asked room b qs .parts)
 asked-stand room b [] = none-stands room
 asked-stand room b (q ∷ qs) =
     let p = part b q in
-    let others = asked (room - sizeOf (p .answer)) (p .bench) qs in
-    one-stands room (p .answer) (p .handed) others (query-part b q) (asked-stand (room - sizeOf (p .answer)) (p .bench) qs)
+    one-stands room (p .answer) (p .handed) (λ bytes. asked (room - length bytes) (p .bench) qs) (query-part b q)
+    (λ bytes. asked-stand (room - length bytes) (p .bench) qs)
 
-begun-stand : (room : ℕ) (t : Round) (a : Answer Progress) (qs : List Query) → Stand room (begun room t a qs .parts)
-begun-stand room t (refused n) qs = none-stands room
-begun-stand room t (result p) qs = asked-stand room (t .bench) qs
+begun-stand : (room : ℕ) (b : Bench) (handed : List (List ℕ)) (a : Answer Progress) (qs : List Query) →
+    Stand room (ifResult a (λ n. ended n handed) (λ p. after [] handed (asked room b qs)) .parts)
+begun-stand room b handed (refused n) qs = none-stands room
+begun-stand room b handed (result p) qs = asked-stand room b qs
 
-read-stand : (repeat : Bool) (ks : List ℕ) (room : ℕ) (a : Answer (List Query)) → Stand room (runRead repeat ks room a .parts)
-read-stand repeat ks room (refused n) = none-stands room
-read-stand repeat ks room (result qs) = begun-stand room (initialised repeat ks) (initialised repeat ks .answer) qs
+run-stand : (repeat : Bool) (ks : List ℕ) (room : ℕ) (s : List ℕ) (a : Answer (List Query)) → script s ≡ a → Stand room (runSays repeat ks room s .parts)
+unfolding runSays
+run-stand repeat ks room s (refused n) e = rw e (none-stands room)
+run-stand repeat ks room s (result qs) e = let t = initialised repeat ks in rw e (begun-stand room (t .bench) (t .handed) (t .answer) qs)
 
 module _ (repeat : Bool) (ks : List ℕ) (room : ℕ) (s : List ℕ) where
   pub run-fits : length (joined (runSays repeat ks room s .parts)) ≤ room
-  unfolding runSays
-  run-fits = read-stand repeat ks room (script s) .fits
+  run-fits = run-stand repeat ks room s (script s) refl .fits
 
   -- every part of a run, on every script, is read back as one part
   pub run-parts : AreParts (runSays repeat ks room s .parts)
-  unfolding runSays
-  run-parts = read-stand repeat ks room (script s) .are
+  run-parts = run-stand repeat ks room s (script s) refl .are

@@ -24,7 +24,7 @@ use Rattle.client_session.specs.Piece.{replyTakes, pieceSays}
 use Rattle.client_session.specs.Finish.{finishSays}
 use Rattle.script.specs.Script.{queryFormat, script}
 use Rattle.bench.specs.Exchange.{exchanged}
-use Rattle.bench.specs.Deliver.{pieces, delivered}
+use Rattle.bench.specs.Deliver.{pieces}
 use Rattle.bench.specs.Run.{initialised, part, runSays}
 use Rattle.hire_text.specs.Hire.{refusedLine, runText, hireText, hirePrints}
 
@@ -32,7 +32,7 @@ use Rattle.hire_text.specs.Hire.{refusedLine, runText, hireText, hirePri
 example : hirePrints (0x01 ∷ 0x0C ∷ 0x02 ∷ 0x01 ∷ 0x00 ∷ 0x04 ∷ 0x41 ∷ 0x0C ∷ 0x1A ∷ 0xF8 ∷ []) ≡ ascii "01 0C E9 0F 04 41 0C 1A F8\n"
 unfolding has high isSpace raised hexDigit digit leading j1979 mode01Lengths groupBytes lineList valueFormat atKind lineText replyText canonical
     unless byteTaken byteSays bytesSay answerSays replySays queryText textLines textLine replyLines walked answerOrder learnLength initSays querySays
-    replyTakes pieceSays finishSays script queryFormat exchanged pieces delivered initialised part runSays hireText
+    replyTakes pieceSays finishSays script queryFormat exchanged pieces initialised part runSays hireText
 example = refl
 
 -- "a malformed or too long script prints only that"
