@@ -16,9 +16,9 @@ use Rattle.value.specs.Values.{Value, partFormat, readRecord}
 use Rattle.value.specs.Same.{SameValues, SameQueries}
 use Rattle.value.proofs.RecordLaws.{RecordFits, record-back, same-record}
 use Rattle.reply_values.specs.Values.{answerOrder}
-use Rattle.script.specs.Script.{Query}
-use Rattle.script.specs.Script.{InLimits}
-use Rattle.script.proofs.ScriptLaws.{script-limits}
+use Rattle.bench.specs.Script.{Query}
+use Rattle.bench.specs.Script.{InLimits}
+use Rattle.bench.proofs.ScriptLaws.{script-limits}
 use Rattle.bench.specs.Run.{Run, Recorded, runAnswer}
 use Rattle.agreement.specs.Vehicle.{given}
 use Rattle.agreement.specs.Demand.{givens, commands, fitting, SameFirst, Drive, hireRecord, partsStanding, comesTo, EveryFits, Holds, Agreement}

@@ -33,7 +33,7 @@ use Rattle.client_session.specs.Piece.{replyIn}
 use Rattle.client_session.specs.Finish.{finishSays}
 use Rattle.client_session.proofs.StartLaws.{repeats, query-repeated, query-in-full}
 use Rattle.client_session.proofs.PiecesLaws.{Awaiting, prompted}
-use Rattle.script.specs.Script.{Query}
+use Rattle.bench.specs.Script.{Query}
 use Rattle.bench.specs.Exchange.{Exchanged, exchanged}
 use Rattle.bench.specs.Run as run
 use Rattle.bench.specs.Run.{sendRoom, replyRoom, valuesRoom, Bench, Round, round, onward, startSays, Part, partOf, finished, part}

@@ -31,8 +31,8 @@ use Rattle.client_session.specs.Piece.{replyIn}
 use Rattle.client_session.specs.Finish.{finishSays}
 use Rattle.client_session.proofs.StartLaws.{repeats, query-repeated, query-in-full}
 use Rattle.client_session.proofs.PiecesLaws.{Awaiting, prompted}
-use Rattle.script.specs.Script.{Query, script}
-use Rattle.script.proofs.ScriptLaws.{script-numbers}
+use Rattle.bench.specs.Script.{Query, script}
+use Rattle.bench.proofs.ScriptLaws.{script-numbers}
 use Rattle.bench.specs.Exchange.{Exchanged, exchanged}
 use Rattle.bench.specs.Run as run
 use Rattle.bench.specs.Run.{sendRoom, replyRoom, valuesRoom, Bench, Round, round, onward, later, startSays, Part, partOf, finished, part, asked, runSays, initialised}

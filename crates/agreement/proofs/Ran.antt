@@ -11,9 +11,9 @@ use Rattle.wire.specs.Answer.{result}
 use Rattle.wire.proofs.Cases.{by-test}
 use Rattle.wire.proofs.All.{Bytes}
 use Rattle.reply.specs.Reply.{replyText}
-use Rattle.script.specs.Script.{Query, script}
-use Rattle.script.specs.Script.{InLimits}
-use Rattle.script.proofs.ScriptLaws.{AllAreBytes, script-limits, script-bytes}
+use Rattle.bench.specs.Script.{Query, script}
+use Rattle.bench.specs.Script.{InLimits}
+use Rattle.bench.proofs.ScriptLaws.{AllAreBytes, script-limits, script-bytes}
 use Rattle.bench.specs.Run.{Bench, initialised, part, asked, runSays}
 use Rattle.agreement.specs.Demand.{GoodQueries}
 use Rattle.agreement.proofs.Started.{Between, started}

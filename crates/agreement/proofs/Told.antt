@@ -18,7 +18,7 @@ use Rattle.value.specs.Values.{Value, valuesBytes, partFormat}
 use Rattle.value.proofs.RecordLaws.{ValuesFit}
 use Rattle.reply.specs.Reply.{replyText}
 use Rattle.reply_values.specs.Values.{answerOrder}
-use Rattle.script.specs.Script.{Query}
+use Rattle.bench.specs.Script.{Query}
 use Rattle.bench.specs.Run.{Run, ended, after}
 use Rattle.agreement.specs.Vehicle.{givenEcu, owed, takes, givenLine, given}
 use Rattle.agreement.specs.Demand.{commandOf, commands, fitting}

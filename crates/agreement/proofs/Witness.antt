@@ -31,7 +31,7 @@ use Rattle.reply_values.specs.Learn.{learnLength}
 use Rattle.client_session.specs.Start.{initSays, querySays}
 use Rattle.client_session.specs.Piece.{replyTakes, pieceSays}
 use Rattle.client_session.specs.Finish.{finishSays}
-use Rattle.script.specs.Script.{Query, query, queryFormat, script}
+use Rattle.bench.specs.Script.{Query, query, queryFormat, script}
 use Rattle.bench.specs.Exchange.{exchanged}
 use Rattle.bench.specs.Deliver.{pieces}
 use Rattle.bench.specs.declared.RunAnswer.the-variants.{Complete}

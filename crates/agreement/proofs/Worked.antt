@@ -10,7 +10,7 @@ use Rattle.value.specs.Values.{valueFormat, valuesBytes, readRecord}
 use Rattle.pid.specs.J1979.{j1979}
 use Rattle.query.specs.Query.{queryText}
 use Rattle.reply.specs.Reply.{lineText, replyText}
-use Rattle.script.specs.Script.{Query, query}
+use Rattle.bench.specs.Script.{Query, query}
 use Rattle.agreement.specs.Vehicle.{given}
 use Rattle.agreement.specs.Demand.{commands, fitting, SameFirst}
 

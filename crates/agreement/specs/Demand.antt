@@ -15,7 +15,7 @@ use Rattle.value.specs.Same.{SameQueries, SameReadings, SameRecord}
 use Rattle.reply.specs.Reply.{replyText}
 use Rattle.reply_lines.specs.Lines.{unspaced}
 use Rattle.query.specs.Query.{queryText}
-use Rattle.script.specs.Script.{Query, script}
+use Rattle.bench.specs.Script.{Query, script}
 use Rattle.bench.specs.declared.BenchRun.{BenchRun}
 use Rattle.bench.specs.Run.{Run, runSays, runAnswer, recorded, runLent}
 use Rattle.agreement.specs.Lines.{GoodLines}

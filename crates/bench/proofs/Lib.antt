@@ -1,3 +1,8 @@
+pub mod LinesLaws
+pub mod QueryLaws
+pub mod StepLaws
+pub mod ScriptLaws
+pub mod CheckLaws
 pub mod Worked
 pub mod PiecesLaws
 pub mod ExchangeLaws

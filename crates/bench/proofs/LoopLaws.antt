@@ -18,14 +18,14 @@ use Rattle.wire.proofs.Cases.{by-test, from-no}
 use Rattle.wire.proofs.PutLaws.{put-then, put-whole}
 use Rattle.group.specs.Group.{groupBytes}
 use Rattle.client_session.specs.Session.{client}
-use Rattle.script.specs.Script.{Query, queryFormat}
-use Rattle.script.specs.Answers.{queryStep, queryAt}
-use Rattle.script.specs.declared.QueryStep.{QueryStep}
-use Rattle.script.specs.declared.QueryStep.the-variants as step
-use Rattle.script.proofs.QueryStep.{the-type}
-use Rattle.script.proofs.StepLaws.{QueryHere, step-end, step-none}
-use Rattle.script.proofs.ScriptLaws.{ahead-start}
-use Rattle.script.proofs.QueryLaws.{query-lawful, query-some}
+use Rattle.bench.specs.Script.{Query, queryFormat}
+use Rattle.bench.specs.Steps.{queryStep, queryAt}
+use Rattle.bench.specs.declared.QueryStep.{QueryStep}
+use Rattle.bench.specs.declared.QueryStep.the-variants as step
+use Rattle.bench.proofs.QueryStep.{the-type}
+use Rattle.bench.proofs.StepLaws.{QueryHere, step-end, step-none}
+use Rattle.bench.proofs.ScriptLaws.{ahead-start}
+use Rattle.bench.proofs.QueryLaws.{query-lawful, query-some}
 use Rattle.group.proofs.WalkLaws.{Ahead, ahead-end, ahead-none, ahead-thing}
 use Rattle.bench.specs.declared.Bench as code
 use Rattle.bench.specs.declared.BenchRun.{BenchRun}

@@ -7,7 +7,7 @@ use lib.ListN.{length}
 use Rattle.wire.specs.declared.Refusal.{Refusal}
 use Rattle.wire.specs.Answer.{Answer, result, refused, number}
 use Rattle.client_session.specs.Call.{Progress, clientAnswer}
-use Rattle.script.specs.Script.{Query, script}
+use Rattle.bench.specs.Script.{Query, script}
 use Rattle.bench.specs.declared.RunAnswer.the-variants.{Refused}
 use Rattle.bench.specs.declared.BenchRun.{BenchRun}
 use Rattle.bench.specs.declared.Round as code-round

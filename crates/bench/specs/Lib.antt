@@ -1,3 +1,4 @@
+pub mod Script
 pub mod Exchange
 pub mod Deliver
 pub mod Run

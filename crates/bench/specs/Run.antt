@@ -20,7 +20,7 @@ use Rattle.client_session.specs.Start.{initSays, querySays}
 use Rattle.client_session.specs.Piece.{pieceSays, storeAfter}
 use Rattle.client_session.specs.Pieces.{fed}
 use Rattle.client_session.specs.Finish.{finishSays}
-use Rattle.script.specs.Script.{Query, script}
+use Rattle.bench.specs.Script.{Query, script}
 use Rattle.bench.specs.Exchange.{Exchanged, exchanged}
 use Rattle.bench.specs.Deliver.{pieces}
 use Rattle.bench.specs.declared.RunAnswer.{RunAnswer}

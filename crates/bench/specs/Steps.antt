@@ -2,6 +2,7 @@
 use mathlib.Core.Path.{_≡_}
 use mathlib.Core.Bool.{Bool, true, cond}
 use mathlib.Core.List.{List, [], _∷_, _++_}
+use mathlib.Core.Option.{Option, none, some}
 use Prim.Native.Nat.{ℕ, _+_, _-_, _≤_}
 use lib.Dec.{ltb}
 use lib.ListN.{length, take, drop}
@@ -9,6 +10,8 @@ use lib.Seq.{sets}
 use Rattle.wire.specs.Answer.{Answer, result, refused, number}
 use Rattle.wire.specs.Text.{joined}
 use Rattle.group.specs.Group.{groupBytes}
+use Rattle.group.specs.Format.{stepOf, readRow, answerOf}
+use Rattle.line_list.specs.Lines.{linesBytes, lineFormat}
 use Rattle.server_session.specs.declared.ServerSession.{ServerSession}
 use Rattle.server_session.specs.Session.{Session, session, freshSession}
 use Rattle.client_session.specs.Session.{Client, client, freshClient}
@@ -19,7 +22,13 @@ use Rattle.bench.specs.declared.Delivery.{Delivery}
 use Rattle.bench.specs.declared.ExchangeStep.{ExchangeStep}
 use Rattle.bench.specs.Exchange.{Exchanged, exchanged}
 use Rattle.bench.specs.Deliver.{pieces}
-use Rattle.script.specs.Script.{Query, script}
+use Rattle.bench.specs.Script.{Query, queryFormat, script}
+use Rattle.bench.specs.declared.QueryStep.{QueryStep}
+use Rattle.bench.specs.declared.QueryStep.the-variants as step
+use Rattle.bench.specs.declared.ScriptCheck.{ScriptCheck}
+use Rattle.bench.specs.declared.ScriptCheck.the-variants as check
+use Rattle.bench.specs.declared.Skipped.{Skipped}
+use Rattle.bench.specs.declared.Skipped.the-variants as skip
 use Rattle.bench.specs.declared.Bench as code
 use Rattle.bench.specs.declared.PartAnswer.{PartAnswer}
 use Rattle.bench.specs.declared.PartAnswer.the-variants as part
@@ -170,3 +179,50 @@ added room a = standing room a [] (λ bytes. record { answer = result tt; parts 
 -- the parts of a run that stand from position at on
 abbrev pub lentFrom : ℕ → Run → List ℕ → Recorded
 lentFrom at d out = record { answer = d .answer; written = at + length (joined (d .parts)); out = sets out at (joined (d .parts)) }
+
+-- ---- scripts: the query at a position, or none at the end, or 5; how many queries a whole script has, or 3 or 5
+
+-- A query in its script: where its PIDs start and how many they are, its ECU count+1, where the line list of its lines starts, and where the next query does.
+pub record QueryPlace : Type 0 where
+  pub pids : ℕ
+  pub few : ℕ
+  pub count : ℕ
+  pub list : ℕ
+  pub next : ℕ
+
+abbrev pub queryStep : QueryStep → Answer (Option QueryPlace)
+queryStep (step.Query pids few count list next) = result (some (record { pids = pids; few = few; count = count; list = list; next = next .at }))
+queryStep step.End = result none
+queryStep (step.Refused r) = refused (number r)
+
+-- a query at a position, of which so much of n bytes is left: its PIDs stand after their count, and its lines before what is left
+abbrev pub queryIn : ℕ → ℕ → Query → List ℕ → QueryPlace
+queryIn n at q rest = record {
+  pids = at + length (groupBytes (length (q .pids)));
+  few = length (q .pids);
+  count = q .count;
+  list = n - length rest - length (linesBytes (q .lines));
+  next = n - length rest;
+}
+
+unfoldable pub queryAt : List ℕ → ℕ → Answer (Option QueryPlace)
+queryAt s at = stepOf queryFormat (queryIn (length s) at) (drop at s)
+
+abbrev pub scriptCheck : ScriptCheck → Answer ℕ
+scriptCheck (check.Queries n) = result n
+scriptCheck (check.Refused r) = refused (number r)
+
+abbrev pub howMany : Answer (List Query) → Answer ℕ
+howMany (refused n) = refused n
+howMany (result qs) = result (length qs)
+
+unfoldable pub queriesIn : List ℕ → Answer ℕ
+queriesIn s = howMany (script s)
+
+abbrev pub skipped : Skipped → Answer ℕ
+skipped (skip.To next) = result next
+skipped (skip.Refused r) = refused (number r)
+
+-- the position after n lines
+unfoldable pub linesAfter : ℕ → List ℕ → ℕ → Answer ℕ
+linesAfter n s at = answerOf (λ ls rest. length s - length rest) (readRow lineFormat n (drop at s))

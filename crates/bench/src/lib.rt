@@ -2,12 +2,10 @@
 mod ask;
 mod exchange;
 mod rounds;
+mod script;
 
 use client_session::ClientAnswer;
 use client_session::ClientSession;
-use script::QueryStep;
-use script::ScriptCheck;
-use script::ScriptCursor;
 use server_session::ServerSession;
 use wire::Refusal;
 ghost use mathlib.Core.Path.{_≡_};
@@ -31,6 +29,37 @@ pub struct BenchRun {
     pub answer: RunAnswer,
     // How many bytes of the record stand.
     pub written: usize,
+}
+
+// A position in a script, where a query starts.
+struct ScriptCursor {
+    at: usize,
+}
+
+enum QueryStep {
+    // Where the PIDs start and how many they are (1 to 6), ECU count+1 (0 for none, at most 256), and where the line list
+    // of its lines starts; it ends where the next query starts.
+    Query {
+        pids: usize,
+        few: usize,
+        count: u16,
+        list: usize,
+        next: ScriptCursor,
+    },
+    End,
+    Refused(Refusal),
+}
+
+enum ScriptCheck {
+    // So many queries.
+    Queries(usize),
+    Refused(Refusal),
+}
+
+// Where some lines end.
+enum Skipped {
+    To(usize),
+    Refused(Refusal),
 }
 
 // Both sessions, and how many piece lengths are used up.

@@ -15,8 +15,8 @@ use Rattle.value.specs.Answers.{valueAt}
 use Rattle.value.specs.Same.{SameRecord}
 use Rattle.pid.specs.J1979.{j1979}
 use Rattle.pid.specs.Lengths.{mode01Lengths}
-use Rattle.script.specs.Script.{query, InLimits, queryFormat, script}
-use Rattle.script.specs.Answers.{queryAt, queriesIn}
+use Rattle.bench.specs.Script.{query, InLimits, queryFormat, script}
+use Rattle.bench.specs.Steps.{queryAt, queriesIn}
 use Rattle.cards.specs.Example.{AsExpected}
 use Rattle.cards.specs.Numbers.{numbers, twoParts}
 

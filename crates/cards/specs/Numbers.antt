@@ -5,7 +5,7 @@ use mathlib.Core.Option.{none, some}
 use Prim.Native.Nat.{ℕ}
 use lib.ListN.{replicate}
 use Rattle.wire.specs.Answer.{result, refused}
-use Rattle.wire.specs.declared.Refusal.the-variants.{TooLong, Malformed, SmallBuffer}
+use Rattle.wire.specs.declared.Refusal.the-variants.{Malformed, SmallBuffer}
 use Rattle.group.specs.Group.{got, groupBytes}
 use Rattle.group.specs.Answers.{groupRead, groupAt}
 use Rattle.group.specs.declared.GroupRead.the-variants as group
@@ -22,10 +22,8 @@ use Rattle.value.specs.declared.ValueStep.the-variants as values
 use Rattle.pid.specs.J1979.{j1979}
 use Rattle.pid.specs.Lengths.{mode01Lengths, entryLength, lengthIn, dataLength, listed}
 use Rattle.pid.specs.declared.DataLength.the-variants.{Known, Unknown}
-use Rattle.script.specs.Script.{Query, query, queryFormat, script}
-use Rattle.script.specs.Answers.{queryStep, queryAt, scriptCheck, queriesIn}
-use Rattle.script.specs.declared.QueryStep.the-variants as queries
-use Rattle.script.specs.declared.ScriptCheck.the-variants as whole
+use Rattle.bench.specs.Script.{Query, query, queryFormat, script}
+use Rattle.bench.specs.Steps.{queryAt, queriesIn}
 use Rattle.cards.specs.Example.{Example, example}
 
 -- a line of unknown ECU: vehicle speed 20
@@ -100,12 +98,12 @@ numbers =
     example "six PIDs and a count of 255, written" (queryFormat .write six) sixPids ∷
     example "the same read" (script sixPids) (result (six ∷ [])) ∷
     example "where its PIDs, its lines and the next query stand" (queryAt worked 0) (result (some (record { pids = 1; few = 1; count = 2; list = 4; next = 10 }))) ∷
-    example "no query after it" (queryAt worked 10) (queryStep queries.End) ∷
-    example "no PID, and seven" (queryAt (0x00 ∷ 0x00 ∷ 0x00 ∷ []) 0 ∷ queryAt (0x07 ∷ replicate 9 0) 0 ∷ []) (replicate 2 (queryStep (queries.Refused Malformed))) ∷
+    example "no query after it" (queryAt worked 10) (result none) ∷
+    example "no PID, and seven" (queryAt (0x00 ∷ 0x00 ∷ 0x00 ∷ []) 0 ∷ queryAt (0x07 ∷ replicate 9 0) 0 ∷ []) (replicate 2 (refused 5)) ∷
     example "a count of 255 and of 256" (queriesIn (0x01 ∷ 0x0C ∷ 0x80 ∷ 0x02 ∷ 0x00 ∷ []) ∷ queriesIn (0x01 ∷ 0x0C ∷ 0x81 ∷ 0x02 ∷ 0x00 ∷ []) ∷ [])
-    (scriptCheck (whole.Queries 1) ∷ scriptCheck (whole.Refused Malformed) ∷ []) ∷
+    (result 1 ∷ refused 5 ∷ []) ∷
     example "a query of 64 lines and of 65" (queriesIn (0x01 ∷ 0x0C ∷ 0x00 ∷ 0x40 ∷ replicate 128 0) ∷ queriesIn (0x01 ∷ 0x0C ∷ 0x00 ∷ 0x41 ∷ replicate 130 0) ∷ [])
     (result 1 ∷ refused 5 ∷ []) ∷
     example "the empty script has no query" (queriesIn []) (result 0) ∷
-    example "16,384 bytes with no PID, and one byte more" (queriesIn (replicate 16384 0) ∷ queriesIn (replicate 16385 0) ∷ []) (refused 5 ∷ scriptCheck (whole.Refused TooLong) ∷ []) ∷
+    example "16,384 bytes with no PID, and one byte more" (queriesIn (replicate 16384 0) ∷ queriesIn (replicate 16385 0) ∷ []) (refused 5 ∷ refused 3 ∷ []) ∷
     []

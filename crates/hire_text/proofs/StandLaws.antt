@@ -25,7 +25,7 @@ use Rattle.client_session.specs.Session.{Client}
 use Rattle.client_session.specs.Call.{Progress, valueCount, ClientSaid}
 use Rattle.client_session.specs.Piece.{replyIn}
 use Rattle.client_session.specs.Finish.{question, givesValues, finishSays}
-use Rattle.script.specs.Script.{Query, script}
+use Rattle.bench.specs.Script.{Query, script}
 use Rattle.bench.specs.Run.{valuesRoom, Bench, initialised, startSays, asking, partOf, finished, part, Run, ifResult, ended, after, asked, runSays}
 use Rattle.bench.specs.Steps.{standing}
 use Rattle.hire_text.specs.Steps.{IsPart, AreParts}

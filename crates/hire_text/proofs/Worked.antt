@@ -22,7 +22,7 @@ use Rattle.reply_values.specs.Learn.{learnLength}
 use Rattle.client_session.specs.Start.{initSays, querySays}
 use Rattle.client_session.specs.Piece.{replyTakes, pieceSays}
 use Rattle.client_session.specs.Finish.{finishSays}
-use Rattle.script.specs.Script.{queryFormat, script}
+use Rattle.bench.specs.Script.{queryFormat, script}
 use Rattle.bench.specs.Exchange.{exchanged}
 use Rattle.bench.specs.Deliver.{pieces}
 use Rattle.bench.specs.Run.{initialised, part, runSays}

@@ -2,8 +2,8 @@
 use Rattle.bench.proofs.LoopLaws.{Left, left-start, left-done, left-refused, left-next}
 use Rattle.bench.specs.Steps.{benchOf, queriesOf}
 use Rattle.bench.specs.Run.{replyRoom, asked, Recorded, runLent}
-use Rattle.script.proofs.StepLaws.{QueryHere, step-query}
-use Rattle.script.specs.Script.{Query}
+use Rattle.bench.proofs.StepLaws.{QueryHere, step-query}
+use Rattle.bench.specs.Script.{Query}
 use Rattle.wire.proofs.All.{Bytes, all-from}
 use borrow.Author.Needs.{needs}
 use lib.ListN.{length}

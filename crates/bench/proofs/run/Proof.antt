@@ -1,6 +1,6 @@
 -- `bench::run` meets its contract.
 use borrow.Author.Needs.{needs}
-use Rattle.script.proofs.CheckLaws.{check-queries, check-none}
+use Rattle.bench.proofs.CheckLaws.{check-queries, check-none}
 use Rattle.bench.proofs.RunLaws.{script-refused}
 use Rattle.bench.proofs.run.Statement.{statement}
 use Rattle.bench.proofs.run.Tie as tie

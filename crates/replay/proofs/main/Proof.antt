@@ -80,28 +80,27 @@ loop-less-2 : tie.Need-loop-less-2 Inv-loop μ-loop
 loop-less-2 c = search needs
 
 loop-again-2 : tie.Need-loop-again-2 Inv-loop μ-loop
-loop-again-2 c =
-    let loop = c .before .before .before .before .before .before .before .before .before .before .before .before .before .before .loop in
-    let read-entry = c .before .before .before .before .before .before .before .before .before .before .before .read-entry in
-    let replay = c .before .before .before .before .replay in (
-      search needs,
-      search needs,
-      search needs,
-      search needs,
-      search needs,
-      search needs,
+loop-again-2 c = (
+  search needs,
+  search needs,
+  search needs,
+  search needs,
+  search needs,
+  search needs,
+  let loop = c .before .before .before .before .before .before .before .before .before .before .before .before .before .before .loop in
+      let entry = c .before .before .before .before .before .before .before .before .before .before .before .read-entry .ensures in
+      let replay = c .before .before .before .before .replay in
       omega (
         arith,
         ap (λ (t : Tally). t .cases) (c .add-case .ensures),
         tallied-cases (loop .under) (replay .result),
         loop .inv .6,
-        read-entry .ensures
-            .header,
-        read-entry .ensures .pieces,
-        read-entry .ensures .script,
-        read-entry .ensures .stored,
+        entry .header,
+        entry .pieces,
+        entry .script,
+        entry .stored,
       ),
-    )
+)
 
 print-tally-requires : tie.Need-print-tally-requires Inv-loop μ-loop
 print-tally-requires c κs = search needs
