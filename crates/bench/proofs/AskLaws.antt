@@ -15,7 +15,6 @@ use Rattle.value.specs.Values.{Value, valuesBytes}
 use Rattle.reply_lines.specs.Decode.{replyLines}
 use Rattle.reply_values.specs.Values.{valuesOf, answerOrder}
 use Rattle.reply_values.specs.Learn.{lengthsAfter}
-use Rattle.reply_values.specs.Read.{reading}
 use Rattle.reply_values.proofs.SizeLaws.{reply-size}
 use Rattle.server_session.specs.Session.{session}
 use Rattle.client_session.specs.declared.ClientAnswer.the-variants.{Sent}
@@ -24,8 +23,9 @@ use Rattle.client_session.specs.Session.{Client, client}
 use Rattle.client_session.specs.Call.{Progress, sent, ClientSaid, ClientServed, clientLent, clientAnswer, clientStep}
 use Rattle.client_session.specs.Start.{querySays}
 use Rattle.client_session.specs.Piece.{replyIn}
-use Rattle.client_session.specs.Finish.{question, givesValues, finishSays}
+use Rattle.client_session.specs.Finish.{givesValues, finishSays}
 use Rattle.client_session.proofs.StartLaws.{query-fits}
+use Rattle.client_session.proofs.FinishLaws.{readFor}
 use Rattle.bench.specs.declared.Bench as code
 use Rattle.bench.specs.declared.Round as code-round
 use Rattle.bench.specs.declared.PartAnswer.{PartAnswer}
@@ -74,7 +74,7 @@ unfolding answerOrder
 ordered-size vs = refl
 
 reply-room : (c : Client) (reply : List ℕ) → length reply ≤ 4096 →
-    givesValues replyRoom c (reading (question c) reply) ≡ givesValues valuesRoom c (reading (question c) reply)
+    givesValues replyRoom c (readFor c reply) ≡ givesValues valuesRoom c (readFor c reply)
 unfolding unless
 reply-room c reply short =
     let ls = replyLines (c .server .framing) reply in
