@@ -51,7 +51,7 @@ asksAll pids = querySays 80 framed pids 0 true
 abbrev lineOf : Bool → String → List ℕ
 lineOf framing t = linesBytes (replyLines framing (ascii t))
 
--- ---- the answer to ATZ
+-- ---- the answer to ATZ, and a read that is given up
 
 -- ATZ is sent
 abbrev resetting : Client
@@ -65,6 +65,14 @@ inTwo = "ATZ\r\r\n\r\nELM327" ∷ " v1.5\r\n\r\n>" ∷ "ATE0\rOK\r\n\r\n>" ∷ "
 abbrev inOne : List String
 inOne = "ATZ\r\r\n\r\nELM327 v1.5\r\n\r\n>" ∷ "ATE0\rOK\r\n\r\n>" ∷ "OK\r\r>" ∷ "OK\r\r>" ∷ "OK\r\r>" ∷ "OK\r\r>" ∷ []
 
+-- the commands of the initialisation after ATZ, and nothing after the last
+abbrev setUp : List (List ℕ)
+setUp = ascii "ATE0\r" ∷ ascii "ATL0\r" ∷ ascii "ATS0\r" ∷ ascii "ATSP0\r" ∷ ascii "ATH1\r" ∷ [] ∷ []
+
+-- a reply to engine speed
+abbrev speed : String
+speed = "7E804410C1AF8\r\r>"
+
 -- engine speed asked, and the answer to ATH1 read
 abbrev oneBehind : ClientSaid
 oneBehind = answering (asks (hearing resetting inTwo) 0x0C) "OK\r\r>"
@@ -73,10 +81,23 @@ oneBehind = answering (asks (hearing resetting inTwo) 0x0C) "OK\r\r>"
 abbrev givenUp : ClientSaid
 givenUp = failureSays 80 (asks framed 0x0C .next) failure.Read
 
--- ---- replies of vehicles
+abbrev pub hosts : List Example
+hosts =
+    example "ATZ's answer in one piece: what goes out" (sentTo resetting inOne) setUp ∷
+    example "and the first query's value" (answering (asks (hearing resetting inOne) 0x0C) speed .text) (0x0C ∷ 0xE9 ∷ 0x0F ∷ 0x04 ∷ 0x41 ∷ 0x0C ∷ 0x1A ∷ 0xF8 ∷ []) ∷
+    example "in two pieces: the same goes out" (sentTo resetting inTwo) setUp ∷
+    example "and the initialisation is over before ATH1 is answered"
+    (saidTo resetting inTwo) (result sent ∷ result sent ∷ result sent ∷ result sent ∷ result sent ∷ result over ∷ []) ∷
+    example "ATH1's answer is that of the first query, which has no values" (oneBehind .answer) (result (values 0)) ∷
+    example "and the first query's is that of the second, here of 0D"
+    (answering (asks (oneBehind .next) 0x0D) speed .text) (0x0C ∷ 0xE9 ∷ 0x0F ∷ 0x04 ∷ 0x41 ∷ 0x0C ∷ 0x1A ∷ 0xF8 ∷ []) ∷
+    example "an empty piece stands for ATZ's answer as well" (reply resetting "" .text) (ascii "ATE0\r") ∷
+    example "a read that is given up" (givenUp .answer) (refused 7) ∷
+    example "and the late reply is that of the next query, here of 0D"
+    (answering (asks (givenUp .next) 0x0D) speed .text) (0x0C ∷ 0xE9 ∷ 0x0F ∷ 0x04 ∷ 0x41 ∷ 0x0C ∷ 0x1A ∷ 0xF8 ∷ []) ∷
+    []
 
-abbrev speed : String
-speed = "7E804410C1AF8\r\r>"
+-- ---- replies of vehicles
 
 -- engine speed with the frame filled up by 00
 abbrev padded00 : ClientSaid
@@ -98,20 +119,8 @@ messages = "STOPPED\r\r>" ∷ "UNABLE TO CONNECT\r\r>" ∷ []
 abbrev longId : ℕ → List ℕ
 longId e = ascii "18DAF1" ++ (hexByte e ++ ascii "04410C1AF8\r\r>")
 
-abbrev pub hosts : List Example
-hosts =
-    example "ATZ's answer in one piece: what goes out" (sentTo resetting inOne) (ascii "ATE0\r" ∷ ascii "ATL0\r" ∷ ascii "ATS0\r" ∷ ascii "ATSP0\r" ∷ ascii "ATH1\r" ∷ [] ∷ []) ∷
-    example "and the first query's value" (answering (asks (hearing resetting inOne) 0x0C) speed .text) (0x0C ∷ 0xE9 ∷ 0x0F ∷ 0x04 ∷ 0x41 ∷ 0x0C ∷ 0x1A ∷ 0xF8 ∷ []) ∷
-    example "in two pieces: the same goes out" (sentTo resetting inTwo) (sentTo resetting inOne) ∷
-    example "and the initialisation is over before ATH1 is answered"
-    (saidTo resetting inTwo) (result sent ∷ result sent ∷ result sent ∷ result sent ∷ result sent ∷ result over ∷ []) ∷
-    example "ATH1's answer is that of the first query, which has no values" (oneBehind .answer) (result (values 0)) ∷
-    example "and the first query's is that of the second, here of 0D"
-    (answering (asks (oneBehind .next) 0x0D) speed .text) (0x0C ∷ 0xE9 ∷ 0x0F ∷ 0x04 ∷ 0x41 ∷ 0x0C ∷ 0x1A ∷ 0xF8 ∷ []) ∷
-    example "an empty piece stands for ATZ's answer as well" (reply resetting "" .text) (ascii "ATE0\r") ∷
-    example "a read that is given up" (givenUp .answer) (refused 7) ∷
-    example "and the late reply is that of the next query, here of 0D"
-    (answering (asks (givenUp .next) 0x0D) speed .text) (0x0C ∷ 0xE9 ∷ 0x0F ∷ 0x04 ∷ 0x41 ∷ 0x0C ∷ 0x1A ∷ 0xF8 ∷ []) ∷
+abbrev pub vehicles : List Example
+vehicles =
     example "a frame padded with 00: PID 00 with what is left" (padded00 .text)
     (0x0C ∷ 0xE9 ∷ 0x0F ∷ 0x04 ∷ 0x41 ∷ 0x0C ∷ 0x1A ∷ 0xF8 ∷ 0x00 ∷ 0xE9 ∷ 0x0F ∷ 0x04 ∷ 0x41 ∷ 0x00 ∷ 0x00 ∷ 0x00 ∷ []) ∷
     example "whose count is learned, 1" (countIn (padded00 .next .server .«ecu_counts») 0x00) 2 ∷
