@@ -1,4 +1,4 @@
--- The examples of what hosts, chips and vehicles may do hold, by computation.
+-- The examples of hosts, and of the replies of chips and vehicles, hold, by computation.
 use mathlib.Core.Path.{refl}
 use Rattle.wire.specs.Answer.{unless}
 use Rattle.wire.specs.Text.{isSpace, raised, has, high}
@@ -28,4 +28,4 @@ hosts-hold = (refl, (refl, (refl, (refl, (refl, (refl, (refl, (refl, (refl, tt))
 pub vehicles-hold : AsExpected vehicles
 unfolding isSpace raised has high hexDigit digit leading j1979 mode01Lengths groupBytes valueFormat queryText textLines textLine replyLines walked
     answerOrder learnLength unless framingEffect commandSays querySays replyTakes pieceSays finishSays
-vehicles-hold = (refl, (refl, (refl, (refl, (refl, (refl, (refl, (refl, (refl, (refl, (refl, (refl, (refl, (refl, (refl, (refl, (refl, (refl, (refl, (refl, tt))))))))))))))))))))
+vehicles-hold = (refl, (refl, (refl, (refl, (refl, (refl, (refl, (refl, (refl, (refl, (refl, (refl, (refl, (refl, (refl, (refl, (refl, (refl, (refl, (refl, (refl, tt)))))))))))))))))))))

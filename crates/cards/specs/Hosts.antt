@@ -1,5 +1,5 @@
--- Where a host, a chip or a vehicle parts from document 01's rules, and what these make of it; docs/HOSTS.md tells of each. The replies have the forms of the ELM327
--- datasheet (padded and multi-line replies, 29-bit ids, its messages); what is expected of them follows from document 01's rules alone.
+-- Where a host, a chip or a vehicle does what document 01's rules do not foresee, and what these make of it; docs/HOSTS.md tells of each. The replies are such as ELM327
+-- chips are described to send; what is expected of them follows from document 01's rules alone.
 use mathlib.Core.Bool.{Bool, true, false}
 use mathlib.Core.List.{List, [], _∷_, _++_, map}
 use mathlib.Core.Option.{some}
@@ -154,4 +154,5 @@ vehicles =
     example "a header of three bytes, 48 6B 10: ECU 486, and data from its last digit on" (lineOf true "486B10410C1AF822\r\r>")
     (0x87 ∷ 0x09 ∷ 5 ∷ 0x04 ∷ 0x10 ∷ 0xC1 ∷ 0xAF ∷ 0x82 ∷ []) ∷
     example "no value" (answering (asks framed 0x0C) "486B10410C1AF822\r\r>" .answer) (result (values 0)) ∷
+    example "a chip that has reset sends no header: ECU 410, one byte AF" (lineOf true "41 0C 1A F8\r\r>") (0x91 ∷ 0x08 ∷ 1 ∷ 0xAF ∷ []) ∷
     []
