@@ -28,4 +28,4 @@ hosts-hold = (refl, (refl, (refl, (refl, (refl, (refl, (refl, (refl, (refl, tt))
 pub vehicles-hold : AsExpected vehicles
 unfolding isSpace raised has high hexDigit digit leading j1979 mode01Lengths groupBytes valueFormat queryText textLines textLine replyLines walked
     answerOrder learnLength unless framingEffect commandSays querySays replyTakes pieceSays finishSays
-vehicles-hold = (refl, (refl, (refl, (refl, (refl, (refl, (refl, (refl, (refl, (refl, (refl, (refl, (refl, (refl, (refl, (refl, (refl, (refl, (refl, (refl, (refl, tt)))))))))))))))))))))
+vehicles-hold = (refl, (refl, (refl, (refl, (refl, (refl, (refl, (refl, (refl, (refl, (refl, (refl, (refl, (refl, (refl, (refl, (refl, (refl, (refl, (refl, (refl, (refl, tt))))))))))))))))))))))

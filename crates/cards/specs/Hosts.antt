@@ -153,6 +153,10 @@ vehicles =
     (joined (map (λ e. valuesBytes (valuesOf mode01Lengths (replyLines true (longId e)))) (entries (λ e. e) 0 256))) [] ∷
     example "a header of three bytes, 48 6B 10: ECU 486, and data from its last digit on" (lineOf true "486B10410C1AF822\r\r>")
     (0x87 ∷ 0x09 ∷ 5 ∷ 0x04 ∷ 0x10 ∷ 0xC1 ∷ 0xAF ∷ 0x82 ∷ []) ∷
-    example "no value" (answering (asks framed 0x0C) "486B10410C1AF822\r\r>" .answer) (result (values 0)) ∷
+    example "no value; and after a line SEARCHING... the value alone"
+    (map (λ (t : String). answering (asks framed 0x0C) t .text) ("486B10410C1AF822\r\r>" ∷ "SEARCHING...\r7E804410C1AF8\r\r>" ∷ []))
+    ([] ∷ (0x0C ∷ 0xE9 ∷ 0x0F ∷ 0x04 ∷ 0x41 ∷ 0x0C ∷ 0x1A ∷ 0xF8 ∷ []) ∷ []) ∷
+    example "a line that is marked as wrong: its value, and one of AE" (answering (asks framed 0x0C) "7E804410C1AF8 <DATA ERROR\r\r>" .text)
+    (0x0C ∷ 0xE9 ∷ 0x0F ∷ 0x04 ∷ 0x41 ∷ 0x0C ∷ 0x1A ∷ 0xF8 ∷ 0xAE ∷ 0xE9 ∷ 0x0F ∷ 0x02 ∷ 0x41 ∷ 0xAE ∷ []) ∷
     example "a chip that has reset sends no header: ECU 410, one byte AF" (lineOf true "41 0C 1A F8\r\r>") (0x91 ∷ 0x08 ∷ 1 ∷ 0xAF ∷ []) ∷
     []
