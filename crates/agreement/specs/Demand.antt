@@ -1,4 +1,4 @@
--- Demand 3, its words one by one. DEMANDS.md: "For every list of queries and any two runs of it, each from fresh sessions with framing on and the ATZ echo and
+-- Demand 3, its words one by one: "For every list of queries and any two runs of it, each from fresh sessions with framing on and the ATZ echo and
 -- answer arriving as one piece, the two hire records are equal exactly when the two vehicles gave every query the same values in the same order, PID by PID, an
 -- unknown ECU read as 7E8." proofs/Agreement.antt proves it.
 use mathlib.Core.Path.{_≡_}

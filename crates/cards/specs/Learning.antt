@@ -28,14 +28,14 @@ use Rattle.cards.specs.Example.{Example, example}
 use Rattle.cards.specs.Client.{emptyStore, new, reply}
 
 -- a session with framing on
-abbrev framed : Client
+abbrev pub framed : Client
 framed = reply (commandSays 80 new (ascii "ATH1") .next) "OK\r\r>" .next
 
 -- a query that was started gets a reply, and is finished with so much room for its values
 abbrev finishing : ℕ → ClientSaid → String → ClientSaid
 finishing room s t = finishSays room (reply (s .next) t .next) (storeAfter (s .next) (reply (s .next) t .answer) (ascii t) emptyStore)
 
-abbrev answering : ClientSaid → String → ClientSaid
+abbrev pub answering : ClientSaid → String → ClientSaid
 answering s t = finishing 100 s t
 
 -- the maker's own PID E0 from two ECUs, with one length or two

@@ -89,7 +89,7 @@ numbers =
     example "a record of two queries" (readRecord twoParts) (got speeds []) ∷
     example "the same record written" (writeRow partFormat speeds) twoParts ∷
     example "the values of a PID" (ofPid 0x0D (value 0x0C 0 (0x1A ∷ 0xF8 ∷ []) ∷ value 0x0D 0 (0x20 ∷ []) ∷ [])) (value 0x0D 0 (0x20 ∷ []) ∷ []) ∷
-    example "J1979: 1F, 24, 64, C0, 66 and E0" (map j1979 (0x1F ∷ 0x24 ∷ 0x64 ∷ 0xC0 ∷ 0x66 ∷ 0xE0 ∷ [])) (some 2 ∷ some 4 ∷ some 5 ∷ some 4 ∷ none ∷ none ∷ []) ∷
+    example "lengths of 1F, 24, 64, C0, and of 66 and E0, which the table has not" (map j1979 (0x1F ∷ 0x24 ∷ 0x64 ∷ 0xC0 ∷ 0x66 ∷ 0xE0 ∷ [])) (some 2 ∷ some 4 ∷ some 5 ∷ some 4 ∷ none ∷ none ∷ []) ∷
     example "the table: 1F, 64 and E0" (map (lengthIn mode01Lengths) (0x1F ∷ 0x64 ∷ 0xE0 ∷ [])) (dataLength (Known 2) ∷ dataLength (Known 5) ∷ dataLength Unknown ∷ []) ∷
     example "a learned length of 0 is known" (entryLength 0) (some 0) ∷
     example "the known set: 65, 66, 80, A0, C0 and E0" (map listed (0x65 ∷ 0x66 ∷ 0x80 ∷ 0xA0 ∷ 0xC0 ∷ 0xE0 ∷ [])) (true ∷ false ∷ true ∷ true ∷ true ∷ false ∷ []) ∷
