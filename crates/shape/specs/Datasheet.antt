@@ -1,0 +1,50 @@
+-- What the chip sends for a command, as the ELM327 datasheet has it and in bytes of its own: no definition that the server writes with stands here.
+use mathlib.Core.Path.{_≡_}
+use mathlib.Core.Bool.{Bool, true, false, cond, _&&_, _||_}
+use mathlib.Core.List.{List, [], _∷_, _++_}
+use Prim.Native.Nat.{ℕ, zero, suc}
+use lib.Dec.{eqb}
+use Rattle.wire.specs.Text.{ascii, any}
+
+-- ---- The frame. Every line ends in CR, with linefeeds on in CR LF. After the last line stands an empty one, then the prompt, and nothing after it.
+
+-- CR, LF or the prompt `>`, of which a line holds none
+abbrev pub framing : ℕ → Bool
+framing c = eqb c 0x0D || (eqb c 0x0A || eqb c 0x3E)
+
+abbrev pub ending : Bool → List ℕ
+ending false = 0x0D ∷ []
+ending true = 0x0D ∷ 0x0A ∷ []
+
+-- Some lines, which may be empty, and the text that they are sent as.
+pub data Framed (linefeeds : Bool) : List (List ℕ) → List ℕ → Type 0 where
+  prompt : Framed linefeeds [] (ending linefeeds ++ (0x3E ∷ []))
+  ended : (l : List ℕ) (ls : List (List ℕ)) (rest : List ℕ) → any framing l ≡ false →
+      Framed linefeeds ls rest → Framed linefeeds (l ∷ ls) (l ++ (ending linefeeds ++ rest))
+
+-- ---- A line of data. Bytes are pairs of capital hex digits, with spaces on a space between two pairs. With headers on the id, three digits, and the length, a pair,
+-- stand before them, with spaces on a space after each.
+
+abbrev pub capital : ℕ → Bool
+capital c = any (eqb c) (ascii "0123456789ABCDEF")
+
+-- a text of a form, in which `#` stands for a capital hex digit and any other byte for itself
+abbrev pub fills : List ℕ → List ℕ → Bool
+fills [] [] = true
+fills [] (c ∷ text) = false
+fills (f ∷ form) [] = false
+fills (f ∷ form) (c ∷ text) = cond (eqb f 0x23) (capital c) (eqb c f) && fills form text
+
+abbrev pub gap : Bool → List ℕ
+gap spaces = cond spaces (ascii " ") []
+
+-- so many bytes; docs/DIFFERENCES.md has the space that a chip sends after the last pair
+abbrev pub pairsForm : Bool → ℕ → List ℕ
+pairsForm spaces zero = []
+pairsForm spaces (suc zero) = ascii "##"
+pairsForm spaces (suc (suc n)) = ascii "##" ++ (gap spaces ++ pairsForm spaces (suc n))
+
+-- a line of so many bytes
+abbrev pub dataForm : Bool → Bool → ℕ → List ℕ
+dataForm spaces false n = pairsForm spaces n
+dataForm spaces true n = ascii "###" ++ (gap spaces ++ (ascii "##" ++ (gap spaces ++ pairsForm spaces n)))
