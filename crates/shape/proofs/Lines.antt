@@ -16,7 +16,7 @@ use Rattle.client_state.specs.Settings.{Settings}
 use Rattle.reply.specs.Shape.{chipReply}
 use Rattle.reply.specs.Reply.{spaceIf, dataHex, lineText, lineTexts}
 use Rattle.reply.proofs.ByteLaws.{line-all}
-use Rattle.shape.specs.Datasheet.{framing, Framed, prompt, ended, capital, fills, pairsForm, dataForm}
+use Rattle.shape.specs.Datasheet.{breaksLine, Framed, prompt, lineThen, capital, fills, pairsForm, dataForm}
 use Rattle.shape.specs.Sent.{DataLines, ReplyLines}
 
 -- ---- the frame
@@ -24,27 +24,27 @@ use Rattle.shape.specs.Sent.{DataLines, ReplyLines}
 -- no line holds a byte of the frame
 abbrev pub Plain : List (List ℕ) → Type 0
 Plain [] = Unit {0}
-Plain (l ∷ ls) = (any framing l ≡ false) × Plain ls
+Plain (l ∷ ls) = (any breaksLine l ≡ false) × Plain ls
 
 pub chip-framed : (linefeeds : Bool) (ls : List (List ℕ)) → Plain ls → Framed linefeeds ls (chipReply linefeeds ls)
 chip-framed true [] p = prompt
 chip-framed false [] p = prompt
-chip-framed true (l ∷ ls) p = ended l ls (chipReply true ls) (p .0) (chip-framed true ls (p .1))
-chip-framed false (l ∷ ls) p = ended l ls (chipReply false ls) (p .0) (chip-framed false ls (p .1))
+chip-framed true (l ∷ ls) p = lineThen l ls (chipReply true ls) (p .0) (chip-framed true ls (p .1))
+chip-framed false (l ∷ ls) p = lineThen l ls (chipReply false ls) (p .0) (chip-framed false ls (p .1))
 
 -- ---- the lines of a reply hold none
 
-digit-plain : (d : ℕ) → d < 16 → framing (hexDigit d) ≡ false
+digit-plain : (d : ℕ) → d < 16 → breaksLine (hexDigit d) ≡ false
 unfolding hexDigit
-digit-plain d h = unless (framing (hexDigit d)) (at-below 16 (λ d. not (framing (hexDigit d))) tt d h)
+digit-plain d h = unless (breaksLine (hexDigit d)) (at-below 16 (λ d. not (breaksLine (hexDigit d))) tt d h)
 
-space-plain : (spaces : Bool) → All (λ c. framing c ≡ false) (spaceIf spaces)
+space-plain : (spaces : Bool) → All (λ c. breaksLine c ≡ false) (spaceIf spaces)
 space-plain true = (refl, tt)
 space-plain false = tt
 
-line-plain : (spaces headers : Bool) (l : Line) → any framing (lineText spaces headers l) ≡ false
+line-plain : (spaces headers : Bool) (l : Line) → any breaksLine (lineText spaces headers l) ≡ false
 line-plain spaces headers l =
-    any-none framing (lineText spaces headers l) (line-all (λ c. framing c ≡ false) digit-plain spaces (space-plain spaces) headers l)
+    any-none breaksLine (lineText spaces headers l) (line-all (λ c. breaksLine c ≡ false) digit-plain spaces (space-plain spaces) headers l)
 
 lines-plain : (spaces headers : Bool) (ls : List Line) → Plain (map (lineText spaces headers) ls)
 lines-plain spaces headers [] = tt

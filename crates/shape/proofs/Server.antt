@@ -24,13 +24,13 @@ use Rattle.server_session.specs.Replies.{answerSays, lastAfter, replySays, reje
 use Rattle.server_session.specs.Bytes.{canonical, echoed, emptyLine, lineEnd, byteTaken, byteSays, goesOn, bytesSay}
 use Rattle.server_session.proofs.ByteLaws.{byte-by, afterText, taken-cr, taken-lf, taken-plain, taken-most, on-taken}
 use Rattle.server_session.proofs.BytesLaws.{bytes-on, bytes-stop}
-use Rattle.shape.specs.Datasheet.{framing}
-use Rattle.shape.specs.Sent.{Sends, Replies, Echoes, nothing, back, unclear}
+use Rattle.shape.specs.Datasheet.{breaksLine}
+use Rattle.shape.specs.Sent.{Sends, Replies, Echoes, silent, back, unclear}
 use Rattle.shape.proofs.Lines.{Plain, chip-framed, texts-plain, texts-fill}
 
 -- ---- AT commands
 
-kind-plain : (ati device : List ℕ) → any framing ati ≡ false → any framing device ≡ false → (kind : AtKind) → Plain (kindLines ati device kind)
+kind-plain : (ati device : List ℕ) → any breaksLine ati ≡ false → any breaksLine device ≡ false → (kind : AtKind) → Plain (kindLines ati device kind)
 kind-plain ati device p q Reset = (refl, (refl, (p, tt)))
 kind-plain ati device p q (Set setting on) = (refl, tt)
 kind-plain ati device p q Accepted = (refl, tt)
@@ -42,7 +42,7 @@ kind-plain ati device p q ProtocolNumber = (refl, tt)
 kind-plain ati device p q Unknown = (refl, tt)
 
 -- with identity strings that hold no byte of the frame
-pub answer-shaped : (room : ℕ) (s : Session) (ati device : List ℕ) → any framing ati ≡ false → any framing device ≡ false →
+pub answer-shaped : (room : ℕ) (s : Session) (ati device : List ℕ) → any breaksLine ati ≡ false → any breaksLine device ≡ false →
     Sends (answerSays room s ati device) (kindLines ati device (atKind (s .line)))
 unfolding answerSays
 answer-shaped room s ati device p q =
@@ -62,10 +62,10 @@ reply-shaped room s list =
     let ls = listOf (lineList list) in
     let texts = lineTexts (s .state .spaces) (s .state .headers) ls in
     let framed = chip-framed (s .state .linefeeds) texts (texts-plain (s .state .spaces) (s .state .headers) ls) in
-    record { lines = texts; form = texts-fill (s .state) ls; sent = unless-by (λ d. Sends d texts) _ (λ n. refl) (λ _. rw (last-linefeeds ls s) framed) }
+    record { lines = texts; form = texts-fill (s .state) ls; sends = unless-by (λ d. Sends d texts) _ (λ n. refl) (λ _. rw (last-linefeeds ls s) framed) }
 
 -- with a text that holds no byte of the frame
-pub reject-shaped : (room : ℕ) (s : Session) (text : List ℕ) → any framing text ≡ false → Sends (rejectSays room s text) (text ∷ [])
+pub reject-shaped : (room : ℕ) (s : Session) (text : List ℕ) → any breaksLine text ≡ false → Sends (rejectSays room s text) (text ∷ [])
 unfolding rejectSays
 reject-shaped room s text p = unless-by (λ d. Sends d (text ∷ [])) _ (λ n. refl) (λ _. chip-framed (s .state .linefeeds) (text ∷ []) (p, tt))
 
@@ -101,7 +101,7 @@ module _ (s : Session) (b : ℕ) where
 
 -- what a byte has sent, if it is taken
 pub byte-shaped : (room : ℕ) (s : Session) (b : ℕ) → Echoes (s .state) (take (byteSays room s b .taken) (b ∷ [])) (byteSays room s b .text)
-byte-shaped room s b = simp append-nil at (heard s b room .before [] [] nothing)
+byte-shaped room s b = simp append-nil at (heard s b room .before [] [] silent)
 
 -- one byte at most is taken, whatever comes after it
 take-one : (n : ℕ) → n ≤ 1 → (b : ℕ) (bs : List ℕ) → take n (b ∷ []) ≡ take n (b ∷ bs)
@@ -112,7 +112,7 @@ take-one (suc (suc n)) h b bs = absurd (omega arith)
 -- what some bytes have sent, as many as are taken
 pub bytes-shaped : (room : ℕ) (s : Session) (bs : List ℕ) → Echoes (s .state) (take (bytesSay room s bs .taken) bs) (bytesSay room s bs .text)
 unfolding bytesSay
-bytes-shaped room s [] = nothing
+bytes-shaped room s [] = silent
 bytes-shaped room s (b ∷ bs) =
     let d = byteSays room s b in
     let h = bytesSay (room - length (d .text)) (d .next) bs in

@@ -7,7 +7,7 @@ use Prim.Native.Nat.{ℕ}
 use lib.Dec.{eqb}
 use Rattle.wire.specs.Text.{ascii, any}
 use Rattle.wire.proofs.Cases.{from-no, or-none}
-use Rattle.shape.specs.Datasheet.{framing, ending, Framed, prompt, ended, fills, dataForm}
+use Rattle.shape.specs.Datasheet.{breaksLine, ending, Framed, prompt, lineThen, fills, dataForm}
 
 -- the prompt, with nothing after it
 abbrev last : List ℕ → Option (List (List ℕ))
@@ -42,12 +42,12 @@ joins-first : (c : ℕ) (l : List ℕ) (ls : List (List ℕ)) → joins c (some 
 joins-first c l [] = refl
 joins-first c l (m ∷ ls) = refl
 
-line-back : (linefeeds : Bool) (l rest : List ℕ) (ls : List (List ℕ)) → any framing l ≡ false → readBack linefeeds false rest ≡ some (closed ls) →
+line-back : (linefeeds : Bool) (l rest : List ℕ) (ls : List (List ℕ)) → any breaksLine l ≡ false → readBack linefeeds false rest ≡ some (closed ls) →
     readBack linefeeds false (l ++ (ending linefeeds ++ rest)) ≡ some (l ∷ closed ls)
 line-back true [] rest ls p q = rw q
 line-back false [] rest ls p q = rw q
 line-back linefeeds (c ∷ l) rest ls p q =
-    let (here, more) = or-none (framing c) (any framing l) p in
+    let (here, more) = or-none (breaksLine c) (any breaksLine l) p in
     let (cr, others) = or-none (eqb c 0x0D) (eqb c 0x0A || eqb c 0x3E) here in
     let (lf, mark) = or-none (eqb c 0x0A) (eqb c 0x3E) others in
     rw (mark, cr, lf, line-back linefeeds l rest ls more q) (joins-first c l ls)
@@ -55,7 +55,7 @@ line-back linefeeds (c ∷ l) rest ls p q =
 framed-back : (linefeeds : Bool) {ls : List (List ℕ)} {text : List ℕ} → Framed linefeeds ls text → readBack linefeeds false text ≡ some (closed ls)
 framed-back true prompt = refl
 framed-back false prompt = refl
-framed-back linefeeds (ended l ls rest p f) = line-back linefeeds l rest ls p (framed-back linefeeds f)
+framed-back linefeeds (lineThen l ls rest p f) = line-back linefeeds l rest ls p (framed-back linefeeds f)
 
 -- a text that no lines are sent as
 abbrev pub Misframed : Bool → List ℕ → Type 0

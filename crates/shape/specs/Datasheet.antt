@@ -1,4 +1,4 @@
--- What the chip sends for a command, as the ELM327 datasheet has it and in bytes of its own: no definition that the server writes with stands here.
+-- What the chip sends for a command, as the ELM327 datasheet has it by common descriptions, in bytes of its own: no definition that the server writes with stands here.
 use mathlib.Core.Path.{_≡_}
 use mathlib.Core.Bool.{Bool, true, false, cond, _&&_, _||_}
 use mathlib.Core.List.{List, [], _∷_, _++_}
@@ -9,8 +9,8 @@ use Rattle.wire.specs.Text.{ascii, any}
 -- ---- The frame. Every line ends in CR, with linefeeds on in CR LF. After the last line stands an empty one, then the prompt, and nothing after it.
 
 -- CR, LF or the prompt `>`, of which a line holds none
-abbrev pub framing : ℕ → Bool
-framing c = eqb c 0x0D || (eqb c 0x0A || eqb c 0x3E)
+abbrev pub breaksLine : ℕ → Bool
+breaksLine c = eqb c 0x0D || (eqb c 0x0A || eqb c 0x3E)
 
 abbrev pub ending : Bool → List ℕ
 ending false = 0x0D ∷ []
@@ -19,7 +19,7 @@ ending true = 0x0D ∷ 0x0A ∷ []
 -- Some lines, which may be empty, and the text that they are sent as.
 pub data Framed (linefeeds : Bool) : List (List ℕ) → List ℕ → Type 0 where
   prompt : Framed linefeeds [] (ending linefeeds ++ (0x3E ∷ []))
-  ended : (l : List ℕ) (ls : List (List ℕ)) (rest : List ℕ) → any framing l ≡ false →
+  lineThen : (l : List ℕ) (ls : List (List ℕ)) (rest : List ℕ) → any breaksLine l ≡ false →
       Framed linefeeds ls rest → Framed linefeeds (l ∷ ls) (l ++ (ending linefeeds ++ rest))
 
 -- ---- A line of data. Bytes are pairs of capital hex digits, with spaces on a space between two pairs. With headers on the id, three digits, and the length, a pair,

@@ -37,11 +37,11 @@ ReplyLines s (l ∷ ls) lines = DataLines s (l ∷ ls) lines
 pub record Replies (s : Settings) (ls : List Line) (d : ServerSaid) : Type 0 where
   pub lines : List (List ℕ)
   pub form : ReplyLines s ls lines
-  pub sent : Sends d lines
+  pub sends : Sends d lines
 
 -- Bytes received, and the text sent for them: with echo on each is sent back, and after a CR may stand a `?`, for a line that is not understood.
 pub data Echoes (s : Settings) : List ℕ → List ℕ → Type 0 where
-  nothing : Echoes s [] []
+  silent : Echoes s [] []
   back : (b : ℕ) (bs rest : List ℕ) → Echoes s bs rest → Echoes s (b ∷ bs) (cond (s .echo) (b ∷ []) [] ++ rest)
   unclear : (bs text rest : List ℕ) → Framed (s .linefeeds) (ascii "?" ∷ []) text → Echoes s bs rest →
       Echoes s (0x0D ∷ bs) (cond (s .echo) (0x0D ∷ []) [] ++ (text ++ rest))
