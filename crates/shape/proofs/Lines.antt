@@ -11,6 +11,7 @@ use Rattle.wire.proofs.Cases.{unless, at-below}
 use Rattle.wire.proofs.All.{All}
 use Rattle.wire.proofs.TextLaws.{any-none}
 use Rattle.hex.specs.Digits.{hexDigit}
+use Rattle.group.specs.Format.{Each}
 use Rattle.line_list.specs.Lines.{Line}
 use Rattle.client_state.specs.Settings.{Settings}
 use Rattle.reply.specs.Shape.{chipReply}
@@ -23,8 +24,7 @@ use Rattle.shape.specs.Sent.{DataLines, ReplyLines}
 
 -- no line holds a byte of the frame
 abbrev pub Plain : List (List ℕ) → Type 0
-Plain [] = Unit {0}
-Plain (l ∷ ls) = (any breaksLine l ≡ false) × Plain ls
+Plain ls = Each (λ l. any breaksLine l ≡ false) ls
 
 pub chip-framed : (linefeeds : Bool) (ls : List (List ℕ)) → Plain ls → Framed linefeeds ls (chipReply linefeeds ls)
 chip-framed true [] p = prompt
