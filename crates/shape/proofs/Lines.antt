@@ -1,23 +1,23 @@
 -- The server's lines stand in the datasheet's frame, and its data lines have the datasheet's form.
 use mathlib.Core.Path.{_≡_, refl}
-use mathlib.Core.Bool.{Bool, true, false, not}
+use mathlib.Core.Bool.{Bool, true, false, not, cond}
 use mathlib.Core.List.{List, [], _∷_, map}
 use Prim.Native.Nat.{ℕ, _/_, _%_, _<_}
 use native.Mathlib.Omega.{arith}
-use lib.Dec.{T}
-use lib.ListN.{length}
+use lib.Dec.{T, eqb}
+use lib.ListN.{length, getD}
 use Rattle.wire.specs.Text.{any}
 use Rattle.wire.proofs.Cases.{unless, at-below}
 use Rattle.wire.proofs.All.{All}
 use Rattle.wire.proofs.TextLaws.{any-none}
 use Rattle.hex.specs.Digits.{hexDigit}
 use Rattle.group.specs.Format.{Each}
-use Rattle.line_list.specs.Lines.{Line}
+use Rattle.line_list.specs.Lines.{Line, Fits}
 use Rattle.client_state.specs.Settings.{Settings}
 use Rattle.reply.specs.Shape.{chipReply}
 use Rattle.reply.specs.Reply.{spaceIf, dataHex, lineText, lineTexts}
 use Rattle.reply.proofs.ByteLaws.{line-all}
-use Rattle.shape.specs.Datasheet.{breaksLine, Framed, prompt, lineThen, capital, fills, pairsForm, dataForm}
+use Rattle.shape.specs.Datasheet.{breaksLine, Framed, prompt, lineThen, capitals, fills, pairsForm, dataForm}
 use Rattle.shape.specs.Sent.{DataLines, ReplyLines}
 
 -- ---- the frame
@@ -60,9 +60,14 @@ is-true : (t : Bool) → T t → t ≡ true
 is-true true h = refl
 is-true false h = absurd h
 
-is-capital : (n : ℕ) → capital (hexDigit (n % 16)) ≡ true
+is-capital : (n : ℕ) → any (eqb (hexDigit (n % 16))) capitals ≡ true
 unfolding hexDigit
-is-capital n = is-true (capital (hexDigit (n % 16))) (at-below 16 (λ d. capital (hexDigit d)) tt (n % 16) (omega arith))
+is-capital n = is-true _ (at-below 16 (λ d. any (eqb (hexDigit d)) capitals) tt (n % 16) (omega arith))
+
+-- a digit that the form has
+is-digit : (d : ℕ) → d < 16 → cond (eqb (getD capitals d 0) 0x23) (any (eqb (hexDigit d)) capitals) (eqb (hexDigit d) (getD capitals d 0)) ≡ true
+unfolding hexDigit
+is-digit d h = is-true _ (at-below 16 (λ d. cond (eqb (getD capitals d 0) 0x23) (any (eqb (hexDigit d)) capitals) (eqb (hexDigit d) (getD capitals d 0))) tt d h)
 
 data-fills : (spaces : Bool) (s : List ℕ) → fills (pairsForm spaces (length s)) (dataHex spaces s) ≡ true
 data-fills spaces [] = refl
@@ -70,16 +75,22 @@ data-fills spaces (b ∷ []) = rw (is-capital (b / 16), is-capital b)
 data-fills true (b ∷ c ∷ s) = rw (is-capital (b / 16), is-capital b) (data-fills true (c ∷ s))
 data-fills false (b ∷ c ∷ s) = rw (is-capital (b / 16), is-capital b) (data-fills false (c ∷ s))
 
-line-fills : (spaces headers : Bool) (l : Line) → fills (dataForm spaces headers (length (l .bytes))) (lineText spaces headers l) ≡ true
+line-fills : (spaces headers : Bool) (l : Line) → Fits l → fills (dataForm spaces headers (length (l .bytes))) (lineText spaces headers l) ≡ true
 unfolding lineText
-line-fills spaces false l = data-fills spaces (l .bytes)
-line-fills true true l = simp is-capital (data-fills true (l .bytes))
-line-fills false true l = simp is-capital (data-fills false (l .bytes))
+line-fills spaces false l f = data-fills spaces (l .bytes)
+line-fills true true l f =
+    let n = length (l .bytes) in
+    let high : n / 16 % 16 ≡ n / 16 = omega (arith, f .short) in
+    rw (high, is-digit (n / 16) (omega (arith, f .short)), is-digit (n % 16) (omega arith)) (simp is-capital (data-fills true (l .bytes)))
+line-fills false true l f =
+    let n = length (l .bytes) in
+    let high : n / 16 % 16 ≡ n / 16 = omega (arith, f .short) in
+    rw (high, is-digit (n / 16) (omega (arith, f .short)), is-digit (n % 16) (omega arith)) (simp is-capital (data-fills false (l .bytes)))
 
-lines-fill : (s : Settings) (ls : List Line) → DataLines s ls (map (lineText (s .spaces) (s .headers)) ls)
-lines-fill s [] = tt
-lines-fill s (l ∷ ls) = (line-fills (s .spaces) (s .headers) l, lines-fill s ls)
+lines-fill : (s : Settings) (ls : List Line) → Each Fits ls → DataLines s ls (map (lineText (s .spaces) (s .headers)) ls)
+lines-fill s [] f = tt
+lines-fill s (l ∷ ls) f = (line-fills (s .spaces) (s .headers) l (f .0), lines-fill s ls (f .1))
 
-pub texts-fill : (s : Settings) (ls : List Line) → ReplyLines s ls (lineTexts (s .spaces) (s .headers) ls)
-texts-fill s [] = refl
-texts-fill s (l ∷ ls) = lines-fill s (l ∷ ls)
+pub texts-fill : (s : Settings) (ls : List Line) → Each Fits ls → ReplyLines s ls (lineTexts (s .spaces) (s .headers) ls)
+texts-fill s [] f = refl
+texts-fill s (l ∷ ls) f = lines-fill s (l ∷ ls) f

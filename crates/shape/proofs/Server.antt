@@ -10,8 +10,10 @@ use borrow.Author.Tests.{eqb-true, eqb-false}
 use Rattle.wire.specs.Text.{ascii, any}
 use Rattle.wire.proofs.Cases.{by-test}
 use Rattle.wire.proofs.UnlessLaws.{unless-by}
-use Rattle.group.specs.Group.{listOf}
-use Rattle.line_list.specs.Lines.{Line, lineList}
+use Rattle.group.specs.Group.{Read, got, failed, listOf}
+use Rattle.group.specs.Format.{Each}
+use Rattle.line_list.specs.Lines.{Line, Fits, lineList}
+use Rattle.line_list.proofs.LineLaws.{list-got}
 use Rattle.at_command.specs.Dialect.{atKind, kindSettings, kindLines}
 use Rattle.at_command.specs.declared.AtKind.{AtKind}
 use Rattle.at_command.specs.declared.AtKind.the-variants.{Reset, Set, Accepted, Identity, Voltage, Protocol, ProtocolNumber, Unknown}
@@ -56,13 +58,18 @@ last-linefeeds : (ls : List Line) (s : Session) → lastAfter ls s .linefeeds �
 last-linefeeds [] s = refl
 last-linefeeds (l ∷ ls) s = refl
 
+-- the lines of a list fit their form; a malformed list has none
+lines-fit : (list : List ℕ) (g : Read (List Line)) → lineList list ≡ g → Each Fits (listOf g)
+lines-fit list (failed n) q = tt
+lines-fit list (got ls rest) q = list-got list ls rest q .fit
+
 pub reply-shaped : (room : ℕ) (s : Session) (list : List ℕ) → Replies (s .state) (listOf (lineList list)) (replySays room s list)
 unfolding replySays replyText
 reply-shaped room s list =
     let ls = listOf (lineList list) in
     let texts = lineTexts (s .state .spaces) (s .state .headers) ls in
     let framed = chip-framed (s .state .linefeeds) texts (texts-plain (s .state .spaces) (s .state .headers) ls) in
-    record { lines = texts; form = texts-fill (s .state) ls; sends = unless-by (λ d. Sends d texts) _ (λ n. refl) (λ _. rw (last-linefeeds ls s) framed) }
+    record { lines = texts; form = texts-fill (s .state) ls (lines-fit list (lineList list) refl); sends = unless-by (λ d. Sends d texts) _ (λ n. refl) (λ _. rw (last-linefeeds ls s) framed) }
 
 -- with a text that holds no byte of the frame
 pub reject-shaped : (room : ℕ) (s : Session) (text : List ℕ) → any breaksLine text ≡ false → Sends (rejectSays room s text) (text ∷ [])

@@ -86,3 +86,6 @@ small-letter = refl
 
 pub no-space : fills (dataForm true true 2) (ascii "7E8 02 410C") ≡ false
 no-space = refl
+
+pub other-length : fills (dataForm true true 2) (ascii "7E8 03 41 0C") ≡ false
+other-length = refl

@@ -2,8 +2,9 @@
 use mathlib.Core.Path.{_≡_}
 use mathlib.Core.Bool.{Bool, true, false, cond, _&&_, _||_}
 use mathlib.Core.List.{List, [], _∷_, _++_}
-use Prim.Native.Nat.{ℕ, zero, suc}
+use Prim.Native.Nat.{ℕ, zero, suc, _/_, _%_}
 use lib.Dec.{eqb}
+use lib.ListN.{getD}
 use Rattle.wire.specs.Text.{ascii, any}
 
 -- ---- The frame. Every line ends in CR, with linefeeds on in CR LF. After the last line stands an empty one, then the prompt, and nothing after it.
@@ -22,18 +23,22 @@ pub data Framed (linefeeds : Bool) : List (List ℕ) → List ℕ → Type 0 whe
   lineThen : (l : List ℕ) (ls : List (List ℕ)) (rest : List ℕ) → any breaksLine l ≡ false →
       Framed linefeeds ls rest → Framed linefeeds (l ∷ ls) (l ++ (ending linefeeds ++ rest))
 
--- ---- A line of data. Bytes are pairs of capital hex digits, with spaces on a space between two pairs. With headers on the id, three digits, and the length, a pair,
--- stand before them, with spaces on a space after each.
+-- ---- A line of data. Each byte is a pair of capital hex digits, with spaces on a space between two pairs. With headers on there stand before them the id, as three
+-- digits, and the number of the bytes, as a pair, with spaces on a space after each.
 
-abbrev pub capital : ℕ → Bool
-capital c = any (eqb c) (ascii "0123456789ABCDEF")
+abbrev pub capitals : List ℕ
+capitals = ascii "0123456789ABCDEF"
+
+-- a number below 256 as a pair
+abbrev pub pairOf : ℕ → List ℕ
+pairOf n = getD capitals (n / 16) 0 ∷ getD capitals (n % 16) 0 ∷ []
 
 -- a text of a form, in which `#` stands for a capital hex digit and any other byte for itself
 abbrev pub fills : List ℕ → List ℕ → Bool
 fills [] [] = true
 fills [] (c ∷ text) = false
 fills (f ∷ form) [] = false
-fills (f ∷ form) (c ∷ text) = cond (eqb f 0x23) (capital c) (eqb c f) && fills form text
+fills (f ∷ form) (c ∷ text) = cond (eqb f 0x23) (any (eqb c) capitals) (eqb c f) && fills form text
 
 abbrev pub gap : Bool → List ℕ
 gap spaces = cond spaces (ascii " ") []
@@ -47,4 +52,4 @@ pairsForm spaces (suc (suc n)) = ascii "##" ++ (gap spaces ++ pairsForm spaces (
 -- a line of so many bytes
 abbrev pub dataForm : Bool → Bool → ℕ → List ℕ
 dataForm spaces false n = pairsForm spaces n
-dataForm spaces true n = ascii "###" ++ (gap spaces ++ (ascii "##" ++ (gap spaces ++ pairsForm spaces n)))
+dataForm spaces true n = ascii "###" ++ (gap spaces ++ (pairOf n ++ (gap spaces ++ pairsForm spaces n)))
