@@ -12,4 +12,5 @@ pub mod Numbers
 pub mod Ran
 pub mod Agreement
 pub mod Witness
+mod Needed
 mod Worked

@@ -20,7 +20,7 @@ use Rattle.pid.specs.Lengths.{mode01Lengths}
 use Rattle.group.specs.Group.{groupBytes}
 use Rattle.group.specs.Format.{writeRow}
 use Rattle.line_list.specs.Lines.{Line, line, lineList}
-use Rattle.value.specs.Values.{Value, valueFormat, readRecord}
+use Rattle.value.specs.Values.{Value, value, valueFormat, readRecord}
 use Rattle.value.specs.Same.{SameValues, SameRecord}
 use Rattle.at_command.specs.Dialect.{atKind}
 use Rattle.reply.specs.Reply.{lineText, replyText}
@@ -49,7 +49,7 @@ use Rattle.agreement.proofs.Agreement.{agreement}
 abbrev pub scriptOf : List Query → List ℕ
 scriptOf qs = writeRow queryFormat qs
 
-low-at : (s : List ℕ) → any (leb 256) s ≡ false → (i : ℕ) → i < length s → getD s i 0 < 256
+pub low-at : (s : List ℕ) → any (leb 256) s ≡ false → (i : ℕ) → i < length s → getD s i 0 < 256
 low-at [] e i h = absurd (omega arith)
 low-at (b ∷ s) e zero h = leb-false 256 b (or-none (leb 256 b) (any (leb 256) s) e .0)
 low-at (b ∷ s) e (suc i) h = low-at s (or-none (leb 256 b) (any (leb 256) s) e .1) i (omega arith)
@@ -74,17 +74,17 @@ abbrev pub unknown : List Query
 unknown = engine 0 0xF8 ∷ engine 0 0xF8 ∷ speeds 0 (0x0C ∷ 0x1A ∷ 0xF8 ∷ 0x0D ∷ 0x20 ∷ []) ∷ own ∷ []
 
 -- their parts
-abbrev engineValue : ℕ → List ℕ
+abbrev pub engineValue : ℕ → List ℕ
 engineValue low = 0x0C ∷ 0xE9 ∷ 0x0F ∷ 0x04 ∷ 0x41 ∷ 0x0C ∷ 0x1A ∷ low ∷ []
 
-abbrev speedValue : List ℕ
+abbrev pub speedValue : List ℕ
 speedValue = 0x0D ∷ 0xE9 ∷ 0x0F ∷ 0x03 ∷ 0x41 ∷ 0x0D ∷ 0x20 ∷ []
 
-abbrev ownPart : List ℕ
-ownPart = 0x01 ∷ 0xE0 ∷ 0xE9 ∷ 0x0F ∷ 0x05 ∷ 0x41 ∷ 0xE0 ∷ 1 ∷ 2 ∷ 3 ∷ []
+abbrev pub ownValue : List ℕ
+ownValue = 0xE0 ∷ 0xE9 ∷ 0x0F ∷ 0x05 ∷ 0x41 ∷ 0xE0 ∷ 1 ∷ 2 ∷ 3 ∷ []
 
 abbrev unknownRecord : List ℕ
-unknownRecord = (1 ∷ engineValue 0xF8) ++ (1 ∷ engineValue 0xF8) ++ (2 ∷ engineValue 0xF8) ++ speedValue ++ ownPart
+unknownRecord = (1 ∷ engineValue 0xF8) ++ (1 ∷ engineValue 0xF8) ++ (2 ∷ engineValue 0xF8) ++ speedValue ++ (1 ∷ ownValue)
 
 -- the first vehicle, with repeat on and pieces of 128 bytes
 abbrev pub first : Drive
@@ -103,7 +103,7 @@ known low = engine 0x7E9 low ∷ engine 0x7E9 0xF8 ∷ speeds 0x7E9 (0x0D ∷ 0x
 abbrev other : ℕ → Drive
 other low =
     drive false (1 ∷ 2 ∷ 0 ∷ 200 ∷ 3 ∷ []) (scriptOf (known low)) (replicate 44 0)
-    ((1 ∷ engineValue low) ++ (1 ∷ engineValue 0xF8) ++ (2 ∷ speedValue) ++ engineValue 0xF8 ++ ownPart) (record { answer = Complete; written = 44 })
+    ((1 ∷ engineValue low) ++ (1 ∷ engineValue 0xF8) ++ (2 ∷ speedValue) ++ engineValue 0xF8 ++ (1 ∷ ownValue)) (record { answer = Complete; written = 44 })
 
 second-run : Computed (other 0xF8) (known 0xF8) (ascii "010C1" ∷ ascii "010C1" ∷ ascii "010C0D" ∷ ascii "01E0" ∷ [])
 unfolding has high isSpace raised hexDigit digit leading j1979 mode01Lengths groupBytes lineList valueFormat atKind lineText replyText canonical
@@ -153,13 +153,17 @@ ended8 = drive true [] (scriptOf long) (replicate 10 0) ((1 ∷ engineValue 0xF8
 -- ---- the premises
 
 module _ (L : ℕ → ℕ) where
-  good-engine : (ecu low : ℕ) → GoodQuery L (engine ecu low)
+  pub good-engine : (ecu low : ℕ) → GoodQuery L (engine ecu low)
   unfolding j1979
   good-engine ecu low = (omega arith, ((_, refl, table _ _ (next 0x0C (0x1A ∷ low ∷ []) [] _ refl refl end)), tt))
 
   good-long : L 0xE1 ≡ 253 → GoodLine L longLine
   unfolding j1979
   good-long e = (_, refl, alone 0xE1 (replicate 253 7) refl (sym e))
+
+pub good-own : GoodQuery (λ p. 3) own
+unfolding j1979
+good-own = (omega arith, ((_, refl, alone 0xE0 (1 ∷ 2 ∷ 3 ∷ []) refl refl), tt))
 
 pub good-unknown : GoodQueries (λ p. 3) unknown
 unfolding j1979
@@ -169,7 +173,7 @@ good-unknown = (
     good-engine (λ p. 3) 0 0xF8,
     (
       (omega arith, ((_, refl, table _ _ (next 0x0C (0x1A ∷ 0xF8 ∷ []) _ _ refl refl (next 0x0D (0x20 ∷ []) [] _ refl refl end))), tt)),
-      ((omega arith, ((_, refl, alone 0xE0 (1 ∷ 2 ∷ 3 ∷ []) refl refl), tt)), tt),
+      (good-own, tt),
     ),
   ),
 )
@@ -182,12 +186,12 @@ good-known low = (
     good-engine (λ p. 3) 0x7E9 0xF8,
     (
       (omega arith, ((_, refl, table _ _ (next 0x0D (0x20 ∷ []) _ _ refl refl (next 0x0C (0x1A ∷ 0xF8 ∷ []) [] _ refl refl end))), tt)),
-      ((omega arith, ((_, refl, alone 0xE0 (1 ∷ 2 ∷ 3 ∷ []) refl refl), tt)), tt),
+      (good-own, tt),
     ),
   ),
 )
 
-good-8 : GoodQueries (λ p. 253) long
+pub good-8 : GoodQueries (λ p. 253) long
 good-8 =
     let l = good-long (λ p. 253) refl in
     (good-engine (λ p. 253) 0 0xF8, ((omega arith, (l, (l, (l, (l, (l, (l, (l, (l, tt))))))))), (good-engine (λ p. 253) 0 0xF8, tt)))
@@ -206,31 +210,37 @@ ended8-run =
 
 -- ---- two runs
 
-module _ (d : Drive) (qs : List Query) (texts : List (List ℕ)) (c : Computed d qs texts) where
-  good-first : (L : ℕ → ℕ) (n : ℕ) → GoodQueries L (take n qs) → GoodFirst n d
+module _ {d : Drive} {qs : List Query} {texts : List (List ℕ)} (c : Computed d qs texts) where
+  pub good-first : (L : ℕ → ℕ) (n : ℕ) → GoodQueries L (take n qs) → GoodFirst n d
   good-first L n good = (L, rw (c .reads) good)
 
-  good-all : (L : ℕ → ℕ) → GoodQueries L (take (length qs) qs) → GoodAll d
+  pub good-all : (L : ℕ → ℕ) → GoodQueries L (take (length qs) qs) → GoodAll d
   good-all L good = (L, rw (c .reads) good)
 
-  fits : reach (length (d .lentBuffer)) qs (givens qs) .answer ≡ result tt → EveryFits d
+  pub fits : reach (length (d .lentBuffer)) qs (givens qs) .answer ≡ result tt → EveryFits d
   fits e = rw (c .reads) e
 
 -- two values in either order
-swapped : (v w : Value) → v .pid ≡ 0x0C → w .pid ≡ 0x0D → SameValues (v ∷ w ∷ []) (w ∷ v ∷ [])
-swapped v w e f p = by-test (eqb 0x0C p) (λ t. rw (e, f, ← eqb-true 0x0C p t) refl) (λ t. rw (e, t) refl)
+abbrev engineGiven : Value
+engineGiven = value 0x0C 0x7E9 (0x1A ∷ 0xF8 ∷ [])
 
-first-fits : EveryFits first
+abbrev speedGiven : Value
+speedGiven = value 0x0D 0x7E9 (0x20 ∷ [])
+
+swapped : SameValues (engineGiven ∷ speedGiven ∷ []) (speedGiven ∷ engineGiven ∷ [])
+swapped p = by-test (eqb 0x0C p) (λ t. rw (← eqb-true 0x0C p t) refl) (λ t. rw t refl)
+
+pub first-fits : EveryFits first
 unfolding lineText replyText hexDigit valueFormat groupBytes j1979
-first-fits = fits first _ _ first-run refl
+first-fits = fits first-run refl
 
 -- the records of the first two are equal, since the vehicles gave the same
 same-records : SameRecord (hireRecord first) (hireRecord (other 0xF8))
 unfolding lineText replyText hexDigit valueFormat groupBytes j1979
 same-records =
-    let same = agreement first (other 0xF8) (first-run .ran) (second-run .ran) .equal (good-all first _ _ first-run (λ p. 3) good-unknown)
-    (good-all (other 0xF8) _ _ second-run (λ p. 3) (good-known 0xF8)) first-fits (fits (other 0xF8) _ _ second-run refl) in
-    same .1 (rw (first-run .reads, second-run .reads) ((λ p. refl), ((λ p. refl), (swapped _ _ refl refl, ((λ p. refl), tt)))))
+    let same = agreement first (other 0xF8) (first-run .ran) (second-run .ran) .equal (good-all first-run (λ p. 3) good-unknown)
+    (good-all second-run (λ p. 3) (good-known 0xF8)) first-fits (fits second-run refl) in
+    same .1 (rw (first-run .reads, second-run .reads) ((λ p. refl), ((λ p. refl), (swapped, ((λ p. refl), tt)))))
 
 -- the low byte of the first value
 abbrev lowOf : List Value → ℕ
@@ -241,8 +251,8 @@ lowOf (v ∷ vs) = getD (v .bytes) 1 0
 other-record : SameRecord (hireRecord first) (hireRecord (other 0xF9)) → ⊥
 unfolding lineText replyText hexDigit valueFormat groupBytes j1979
 other-record h =
-    let same = agreement first (other 0xF9) (first-run .ran) (third-run .ran) .equal (good-all first _ _ first-run (λ p. 3) good-unknown)
-    (good-all (other 0xF9) _ _ third-run (λ p. 3) (good-known 0xF9)) first-fits (fits (other 0xF9) _ _ third-run refl) in
+    let same = agreement first (other 0xF9) (first-run .ran) (third-run .ran) .equal (good-all first-run (λ p. 3) good-unknown)
+    (good-all third-run (λ p. 3) (good-known 0xF9)) first-fits (fits third-run refl) in
     let e : _≡_ {A = ℕ} 0xF8 0xF9 = ap lowOf ((rw (first-run .reads, third-run .reads) at (same .0 h)) .0 0x0C) in
     absurd (omega arith)
 
@@ -251,14 +261,14 @@ two-stand : SameFirst 2 (hireRecord first) (hireRecord lastUnasked)
 unfolding readRecord valueFormat
 two-stand =
     let holds = agreement first lastUnasked (first-run .ran) (unasked-run .ran) .before 2 (omega arith) (omega arith)
-    (good-first first _ _ first-run (λ p. 3) 2 (good-engine (λ p. 3) 0 0xF8, (good-engine (λ p. 3) 0 0xF8, tt)))
-    (good-first lastUnasked _ _ unasked-run (λ p. 3) 2 (good-engine (λ p. 3) 0 0xF8, (good-engine (λ p. 3) 0 0xF8, tt))) in
+    (good-first first-run (λ p. 3) 2 (good-engine (λ p. 3) 0 0xF8, (good-engine (λ p. 3) 0 0xF8, tt)))
+    (good-first unasked-run (λ p. 3) 2 (good-engine (λ p. 3) 0 0xF8, (good-engine (λ p. 3) 0 0xF8, tt))) in
     holds .equal .1 (rw (first-run .reads, unasked-run .reads) ((λ p. refl), ((λ p. refl), tt)))
 
 one-stands : SameFirst 1 (hireRecord first) (hireRecord ended8)
 unfolding readRecord valueFormat
 one-stands =
     let holds = agreement first ended8 (first-run .ran) (ended8-run .ran) .before 1 (omega arith) (omega arith)
-    (good-first first _ _ first-run (λ p. 3) 1 (good-engine (λ p. 3) 0 0xF8, tt))
-    (good-first ended8 _ _ ended8-run (λ p. 3) 1 (good-engine (λ p. 3) 0 0xF8, tt)) in
+    (good-first first-run (λ p. 3) 1 (good-engine (λ p. 3) 0 0xF8, tt))
+    (good-first ended8-run (λ p. 3) 1 (good-engine (λ p. 3) 0 0xF8, tt)) in
     holds .equal .1 (rw (first-run .reads, ended8-run .reads) ((λ p. refl), tt))
