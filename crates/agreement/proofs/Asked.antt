@@ -126,6 +126,7 @@ module _ (L : ℕ → ℕ) (pids : List ℕ) (count : ℕ) (l : Line) (ls : List
             agree = g .agree;
             size = size;
             last = unspaced text;
+            short = unspaced-short pids count (ok .few);
             server = refl;
             linked = λ h. ap unspaced (sym (o .last ∙ last));
           };

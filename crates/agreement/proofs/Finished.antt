@@ -21,6 +21,8 @@ use Rattle.reply_values.specs.Values.{valuesOf, answerOrder}
 use Rattle.reply_values.specs.Learn.{lengthsAfter}
 use Rattle.reply_values.specs.Read.{Reading}
 use Rattle.reply_values.proofs.SizeLaws.{reply-size}
+use Rattle.reply_values.proofs.WalkLaws.{values-fit}
+use Rattle.reply_values.proofs.ReadLaws.{reply-known}
 use Rattle.client_session.specs.declared.Under.the-variants as under
 use Rattle.client_session.specs.Session.{Client, isComplete, withUnder, withServer}
 use Rattle.client_session.specs.Call.{values, ClientSaid, clientSaying}
@@ -67,6 +69,13 @@ pub record Over (c n : Client) : Type 0 where
 abbrev withValues : Client → Reading → ClientSaid
 withValues c r = clientSaying (values (length (r .values))) (withUnder (withServer c (r .server)) under.Idle 0) (valuesBytes (r .values))
 
+-- A finish f of the query of a session c, with some values.
+pub record Finishes (c : Client) (vs : List Value) (f : ClientSaid) : Type 0 where
+  pub answer : f .answer ≡ result (values (length vs))
+  pub text : f .text ≡ valuesBytes vs
+  pub fit : ValuesFit vs
+  pub over : Over c (f .next)
+
 over-with : (c : Client) (reply : List ℕ) → Over c (withValues c (readFor c reply) .next)
 over-with c reply = record { under = refl; got = refl; query = refl; wanted = refl; framing = refl; repeat = refl; last = refl }
 
@@ -83,11 +92,14 @@ module _ (c : Client) (store : List ℕ) (turn : isComplete (c .under) ≡ true)
       finish-low valuesRoom c store turn size low ∙
       rw (le-ltb valuesRoom (length (valuesBytes (answerOrder vs))) (omega (arith, answer-reordered vs .size)))
 
-  -- so the finish gets no number
-  pub finish-any : (n : ℕ) × (finishSays valuesRoom c store .answer ≡ result (values n)) × Over c (finishSays valuesRoom c store .next)
+  -- so the finish gets no number, and gives values that fit a record
+  pub finish-any : (vs : List Value) × Finishes c vs (finishSays valuesRoom c store)
   finish-any =
       let reply = replyIn c store in
-      rw finish-fits (length (readFor c reply .values), refl, over-with c reply)
+      let ls = replyLines (c .server .framing) reply in
+      let fit = values-fit (lengthsThen c ls) ls (reply-known (c .server .framing) reply) in
+      rw finish-fits
+      (readFor c reply .values, record { answer = refl; text = refl; fit = answer-reordered (valuesOf (lengthsThen c ls) ls) .fit fit; over = over-with c reply })
 
 -- ---- the reply to a run's lines
 

@@ -76,6 +76,7 @@ pub record Between (L : ℕ → ℕ) (b : Bench) : Type 0 where
   pub size : 4096 ≤ length (b .store)
   -- the server's last command is the client's last query less spaces
   pub last : List ℕ
+  pub short : length last ≤ 128
   pub server : b .server ≡ quiet last
   pub linked : 0 < length (b .client .last) → last ≡ unspaced (b .client .last)
 
@@ -124,7 +125,6 @@ pub record Started (L : ℕ → ℕ) (t : Round) : Type 0 where
   pub answer : t .answer ≡ result over
   pub handed : t .handed ≡ []
   pub between : Between L (t .bench)
-  pub fresh : between .last ≡ []
 
 module _ (L : ℕ → ℕ) (repeat : Bool) (ks : List ℕ) where
   -- the last of the five has set framing as it was asked for
@@ -143,8 +143,7 @@ module _ (L : ℕ → ℕ) (repeat : Bool) (ks : List ℕ) where
   ends n store ks size = record {
     answer = refl;
     handed = refl;
-    between = record { turn = refl; framing = refl; agree = agree-fresh L; size = size; last = []; server = refl; linked = λ h. absurd (omega arith) };
-    fresh = refl;
+    between = record { turn = refl; framing = refl; agree = agree-fresh L; size = size; last = []; short = omega arith; server = refl; linked = λ h. absurd (omega arith) };
   }
 
   pub started : Started L (initialised repeat ks)
