@@ -1,8 +1,8 @@
 -- The vehicle that `serve` plays: one ECU, 7E8, that knows a few PIDs of SAE J1979. Its values stand still.
-use mathlib.Core.Bool.{Bool, cond, _&&_}
+use mathlib.Core.Bool.{Bool, false, cond, _&&_, _||_}
 use mathlib.Core.List.{List, [], _∷_, _++_}
-use Prim.Native.Nat.{ℕ}
-use lib.Dec.{leb}
+use Prim.Native.Nat.{ℕ, zero, suc, _+_, _^_}
+use lib.Dec.{eqb, leb}
 use lib.ListN.{length}
 use Rattle.wire.specs.Text.{ascii, begins}
 use Rattle.hex.specs.Digits.{hexByte}
@@ -16,9 +16,8 @@ pub record Parameter : Type 0 where
 abbrev pub parameter : ℕ → List ℕ → Parameter
 parameter p d = record { pid = p; bytes = d }
 
-abbrev pub parameters : List Parameter
-parameters =
-    parameter 0x00 (0x98 ∷ 0x3E ∷ 0x80 ∷ 0x00 ∷ []) ∷  -- a bit for each of the next 32 PIDs: those below are known
+abbrev pub measured : List Parameter
+measured =
     parameter 0x01 (0x00 ∷ 0x07 ∷ 0xE5 ∷ 0x00 ∷ []) ∷  -- monitor status: lamp off, no trouble codes
     parameter 0x04 (0x40 ∷ []) ∷  -- calculated load: 25 %
     parameter 0x05 (0x7B ∷ []) ∷  -- coolant temperature: 83 °C
@@ -29,6 +28,20 @@ parameters =
     parameter 0x0F (0x46 ∷ []) ∷  -- intake air temperature: 30 °C
     parameter 0x11 (0x2E ∷ []) ∷  -- throttle position: 18 %
     []
+
+abbrev pub knows : List Parameter → ℕ → Bool
+knows [] p = false
+knows (m ∷ ms) p = eqb (m .pid) p || knows ms p
+
+-- n PIDs from p on as the low bits of a byte, the first as the highest of them: set where it is known
+abbrev pub knownBits : List Parameter → ℕ → ℕ → ℕ
+knownBits ms p zero = 0
+knownBits ms p (suc n) = cond (knows ms p) (2 ^ n) 0 + knownBits ms (suc p) n
+
+-- PID 00: a bit for each of the next 32 PIDs
+abbrev pub parameters : List Parameter
+parameters =
+    parameter 0x00 (knownBits measured 0x01 8 ∷ knownBits measured 0x09 8 ∷ knownBits measured 0x11 8 ∷ knownBits measured 0x19 8 ∷ []) ∷ measured
 
 -- a query for one PID: 01, the PID's digits, and at most one character more, as the digit that says how many lines are awaited
 abbrev pub asksFor : List ℕ → ℕ → Bool

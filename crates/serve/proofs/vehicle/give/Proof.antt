@@ -43,7 +43,10 @@ returns-2 c =
     let ecu = size .before .before .before .before in
     let asked = ecu .before .before in
     rw (sym (asked .before .asks-for .ensures) ∙ not-false _ (asked .if1 .left))
-    (put-then (put-then (ecu .put-group .ensures) (put-then (simp unary-clauses at (size .put-group2 .ensures)) (put-then (mode .put-byte .ensures) (put-then (pid .put-byte2 .ensures) (last .put .ensures))))) (put-none _ _))
+    (put-then
+    (put-then (ecu .put-group .ensures)
+    (put-then (simp unary-clauses at (size .put-group2 .ensures)) (put-then (mode .put-byte .ensures) (put-then (pid .put-byte2 .ensures) (last .put .ensures)))))
+    (put-none _ _))
 
 pub give-spec : {M : Type 1} → statement M
 give-spec =
