@@ -1,8 +1,8 @@
--- Laws of the program: where a line is read there is progress, whatever the reader sends.
+-- Laws of the program: it deals with a byte at least in each turn, whatever the reader sends, and what it sends for a command.
 use mathlib.Core.Path.{_≡_, refl, sym, ap, _∙_}
-use mathlib.Core.Bool.{Bool, true, false, cond, _&&_, not}
+use mathlib.Core.Bool.{_&&_, not}
 use mathlib.Core.List.{List, [], _∷_}
-use Prim.Native.Nat.{ℕ, suc, _+_, _-_, _≤_, _<_}
+use Prim.Native.Nat.{ℕ, _+_, _-_, _≤_, _<_}
 use native.Mathlib.Omega.{arith}
 use lib.Dec.{eqb, leb}
 use lib.ListN.{length}
@@ -40,7 +40,7 @@ dealt-after (result p) n = refl
 dealt-after (refused k) n = by-test (eqb k 6) (λ e. rw e) (λ e. rw e (omega arith))
 
 -- the bytes dealt with of what is said
-abbrev pub dealtOf : ServerSaid → ℕ
+abbrev dealtOf : ServerSaid → ℕ
 dealtOf d = dealtWith (d .answer) (d .taken)
 
 taken-dealt : (s : Session) (b : ℕ) → dealtOf (byteTaken s b) ≡ 1
@@ -79,7 +79,7 @@ bytes-most (b ∷ bs) room s =
     (λ e. rw (bytes-stop room s b bs e) (omega (arith, byte-most room s b)))
 
 -- bytes that are there: one at least is dealt with
-pub bytes-some-dealt : (bs : List ℕ) (room : ℕ) (s : Session) → 8 ≤ room → 0 < length bs → 0 < dealtOf (bytesSay room s bs)
+bytes-some-dealt : (bs : List ℕ) (room : ℕ) (s : Session) → 8 ≤ room → 0 < length bs → 0 < dealtOf (bytesSay room s bs)
 bytes-some-dealt [] room s f h = absurd (omega arith)
 bytes-some-dealt (b ∷ bs) room s f h =
     let d = byteSays room s b in

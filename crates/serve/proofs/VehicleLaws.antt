@@ -1,5 +1,5 @@
 -- Laws of the vehicle: its lines are those of its parameters one after the other, and how long they are at most.
-use mathlib.Core.Path.{_≡_, refl, sym}
+use mathlib.Core.Path.{_≡_, refl}
 use mathlib.Core.Bool.{Bool, true, false, cond}
 use mathlib.Core.List.{List, [], _∷_, _++_, append-nil}
 use Prim.Native.Nat.{ℕ, _+_, _/_, _%_, _≤_}
@@ -10,7 +10,7 @@ use Rattle.wire.specs.Text.{ascii, begins}
 use Rattle.wire.proofs.PutLaws.{put-then}
 use Rattle.hex.specs.Digits.{hexDigit, hexByte}
 use Rattle.group.specs.Group.{groupBytes}
-use Rattle.line_list.specs.Lines.{Line, lineFormat, linesBytes}
+use Rattle.line_list.specs.Lines.{lineFormat, linesBytes}
 use Rattle.serve.specs.Vehicle.{Parameter, parameterLine, parameters, asksFor, linesFor, vehicle}
 
 -- the text of a query by its characters
