@@ -16,6 +16,7 @@ use Rattle.reply.specs.Reply.{lineText, replyText}
 use Rattle.server_session.specs.Session.{freshSession}
 use Rattle.server_session.specs.Call.{ServerSaid}
 use Rattle.server_session.specs.Bytes.{canonical, byteTaken, byteSays, bytesSay}
+use Rattle.client_command.specs.Commands.{framingEffect}
 use Rattle.client_session.specs.Session.{freshClient}
 use Rattle.client_session.specs.Call.{sent}
 use Rattle.server_session.specs.Replies.{answerSays, replySays}
@@ -23,12 +24,16 @@ use Rattle.query.specs.Query.{queryText}
 use Rattle.reply_lines.specs.Lines.{textLines}
 use Rattle.reply_lines.specs.Decode.{textLine, replyLines}
 use Rattle.reply_values.specs.Values.{walked, answerOrder}
-use Rattle.client_session.specs.Start.{querySays}
+use Rattle.reply_values.specs.Learn.{learnLength}
+use Rattle.client_session.specs.Start.{commandSays, querySays}
+use Rattle.client_session.specs.Piece.{replyTakes, pieceSays}
+use Rattle.client_session.specs.Finish.{finishSays}
 use Rattle.cards.specs.Cards.{cards, Hold}
 
 pub cards-hold : Hold cards
 unfolding has high isSpace raised hexDigit digit leading j1979 mode01Lengths groupBytes lineList valueFormat atKind lineText replyText canonical
-    unless byteTaken byteSays bytesSay answerSays replySays queryText textLines textLine replyLines walked answerOrder querySays
+    unless byteTaken byteSays bytesSay answerSays replySays queryText textLines textLine replyLines walked answerOrder learnLength framingEffect commandSays querySays
+    replyTakes pieceSays finishSays
 cards-hold = (refl, (refl, (refl, (refl, (refl, (refl, (refl, (refl, (refl, (refl, (refl, (refl, (refl, (refl, tt))))))))))))))
 
 -- card 13: six PIDs pass, seven get 2; byte 128 of a line is stored, the next gets 10

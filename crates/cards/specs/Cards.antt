@@ -1,5 +1,5 @@
 -- Document 01, "Bench cards": the starred ones, as one list of what the definitions give and what the cards say, in bytes.
-use mathlib.Core.Bool.{Bool, true, false}
+use mathlib.Core.Bool.{Bool, true, false, cond}
 use mathlib.Core.List.{List, [], _∷_, _++_}
 use mathlib.Core.Path.{_≡_}
 use Prim.Native.Nat.{ℕ}
@@ -7,17 +7,15 @@ use Prim.Native.String.{String}
 use Rattle.wire.specs.Text.{ascii}
 use Rattle.client_state.specs.Settings.{Settings, fresh}
 use Rattle.line_list.specs.Lines.{Line, line, linesBytes}
-use Rattle.value.specs.Values.{valuesBytes}
-use Rattle.pid.specs.Lengths.{mode01Lengths}
 use Rattle.reply_lines.specs.Decode.{replyLines}
-use Rattle.reply_values.specs.Values.{valuesOf}
 use Rattle.server_session.specs.Session.{freshSession}
 use Rattle.server_session.specs.declared.Phase.the-variants.{ObdCommand}
 use Rattle.server_session.specs.Call.{ServerSaid}
 use Rattle.server_session.specs.Bytes.{bytesSay}
 use Rattle.server_session.specs.Replies.{answerSays, replySays}
-use Rattle.client_session.specs.Session.{freshClient}
 use Rattle.client_session.specs.Start.{querySays}
+use Rattle.cards.specs.Client.{new}
+use Rattle.cards.specs.Learning.{framed, answering}
 
 -- A card's number, what a definition gives, and what the card says.
 pub record Card : Type 0 where
@@ -28,15 +26,13 @@ pub record Card : Type 0 where
 abbrev card : ℕ → List ℕ → List ℕ → Card
 card n g s = record { number = n; given = g; said = s }
 
--- a reply of one line, framed or not: its lines (ECU+1, length, data) and its values
-abbrev oneLine : String → List ℕ
-oneLine t = ascii t ++ (13 ∷ 13 ∷ 62 ∷ [])
-
+-- the lines of a reply, framed or not: ECU+1, length, data
 abbrev lines : Bool → String → List ℕ
-lines framing t = linesBytes (replyLines framing (oneLine t))
+lines framing t = linesBytes (replyLines framing (ascii t))
 
+-- the values that a session, framed or not, gives for a reply to its query of 0C when it finishes it
 abbrev values : Bool → String → List ℕ
-values framing t = valuesBytes (valuesOf mode01Lengths (replyLines framing (oneLine t)))
+values framing t = answering (querySays 80 (cond framing framed new) (0x0C ∷ []) 0 false) t .text
 
 -- what a server with some settings replies to a handed-out command
 abbrev replies : Settings → Line → List ℕ
@@ -54,19 +50,19 @@ atAnswer t = answerSays 64 (heard t .next) (ascii "ELM327 v1.5") (ascii "ELM327"
 
 abbrev pub cards : List Card
 cards =
-    card 1 (values true "7E8 04 41 0C 1A F8") (0x0C ∷ 0xE9 ∷ 0x0F ∷ 0x04 ∷ 0x41 ∷ 0x0C ∷ 0x1A ∷ 0xF8 ∷ []) ∷
-    card 2 (lines false "NO DATA") (0 ∷ 1 ∷ 0xDA ∷ []) ∷
-    card 2 (values false "NO DATA") [] ∷
-    card 3 (lines true "NO DATA") (1 ∷ 0 ∷ []) ∷
-    card 3 (values true "NO DATA") [] ∷
-    card 4 (values true "A12") (0x31 ∷ 0x00 ∷ 0x03 ∷ 0x41 ∷ 0x31 ∷ 0x32 ∷ []) ∷
-    card 5 (values false "41 0C 1A F8 0D 20") (0x0C ∷ 0 ∷ 4 ∷ 0x41 ∷ 0x0C ∷ 0x1A ∷ 0xF8 ∷ 0x0D ∷ 0 ∷ 3 ∷ 0x41 ∷ 0x0D ∷ 0x20 ∷ []) ∷
-    card 6 (lines false "+41") (0 ∷ 1 ∷ 0x04 ∷ []) ∷
+    card 1 (values true "7E8 04 41 0C 1A F8\r\r>") (0x0C ∷ 0xE9 ∷ 0x0F ∷ 0x04 ∷ 0x41 ∷ 0x0C ∷ 0x1A ∷ 0xF8 ∷ []) ∷
+    card 2 (lines false "NO DATA\r\r>") (0 ∷ 1 ∷ 0xDA ∷ []) ∷
+    card 2 (values false "NO DATA\r\r>") [] ∷
+    card 3 (lines true "NO DATA\r\r>") (1 ∷ 0 ∷ []) ∷
+    card 3 (values true "NO DATA\r\r>") [] ∷
+    card 4 (values true "A12\r\r>") (0x31 ∷ 0x00 ∷ 0x03 ∷ 0x41 ∷ 0x31 ∷ 0x32 ∷ []) ∷
+    card 5 (values false "41 0C 1A F8 0D 20\r\r>") (0x0C ∷ 0 ∷ 4 ∷ 0x41 ∷ 0x0C ∷ 0x1A ∷ 0xF8 ∷ 0x0D ∷ 0 ∷ 3 ∷ 0x41 ∷ 0x0D ∷ 0x20 ∷ []) ∷
+    card 6 (lines false "+41\r\r>") (0 ∷ 1 ∷ 0x04 ∷ []) ∷
     card 7 (replies fresh (line 0 (0x41 ∷ 0x0D ∷ 0x20 ∷ []))) (ascii "41 0D 20\r\n\r\n>") ∷
     card 8 (replies (set false false false true) (line 0 (0x41 ∷ 0x0D ∷ 0x20 ∷ []))) (ascii "7E803410D20\r\r>") ∷
     card 9 (replies (set true true true true) (line 0 [])) (ascii "7E8 00 \r\n\r\n>") ∷
     card 10 (heard "\r" .text) (ascii "\r?\r\n\r\n>") ∷
-    card 11 (querySays 80 (freshClient true true) (0x0C ∷ 0x0D ∷ []) 2 true .text) (ascii "010C0D 1\r") ∷
+    card 11 (querySays 80 new (0x0C ∷ 0x0D ∷ []) 2 true .text) (ascii "010C0D 1\r") ∷
     card 12 (heard "ATL0\r" .text ++ atAnswer "ATL0\r") (ascii "ATL0\rOK\r\r>") ∷
     []
 

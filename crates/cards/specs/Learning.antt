@@ -3,7 +3,7 @@
 use mathlib.Core.Bool.{true, false}
 use mathlib.Core.List.{List, [], _∷_, _++_, map}
 use mathlib.Core.Option.{none, some}
-use Prim.Native.Nat.{ℕ}
+use Prim.Native.Nat.{ℕ, _-_}
 use Prim.Native.String.{String}
 use lib.ListN.{replicate, set}
 use Rattle.wire.specs.Answer.{result, refused}
@@ -55,6 +55,10 @@ readE0 text out = readReply (framed .server) (0xE0 ∷ []) false text out
 abbrev readUnlike : ℕ → ReadServed
 readUnlike room = readE0 (ascii unlike) (replicate room 9)
 
+-- `query_pid` of E0, unframed: a line shows that it has one byte, and another has a value of it before two bytes
+abbrev alone : ClientSaid
+alone = answering (querySays 80 new (0xE0 ∷ []) 0 false) "41E001\r410D20E00102\r\r>"
+
 -- the count of a PID, as a query has it, after a query of it
 abbrev countAfter : Client → ℕ → String → ℕ
 countAfter c p t = countIn (answering (querySays 80 c (p ∷ []) 0 false) t .next .server .«ecu_counts») p
@@ -71,6 +75,9 @@ learning =
     example "no length is learned" (lengthIn (readUnlike 18 .server .«pid_lengths») 0xE0 ∷ lengthIn (answering (querySays 80 framed (0xE0 ∷ []) 0 false) unlike .next .server .«pid_lengths») 0xE0 ∷ []) (none ∷ none ∷ []) ∷
     example "with room for 16 bytes nothing is learned or written" (readUnlike 16) (replyRead (record { answer = read.Refused SmallBuffer; written = 0; server = framed .server }) (replicate 16 9)) ∷
     example "which is 6, and 8 for a reply over 4,096 bytes" (readUnlike 16 .answer ∷ readE0 (replicate 4097 13) [] .answer ∷ []) (refused 6 ∷ refused 8 ∷ []) ∷
+    example "a length of 1 that is learned cuts the value after it, and the byte left is a PID without data" (alone .text)
+    (0xE0 ∷ 0 ∷ 3 ∷ 0x41 ∷ 0xE0 ∷ 0x01 ∷ 0x0D ∷ 0 ∷ 3 ∷ 0x41 ∷ 0x0D ∷ 0x20 ∷ 0xE0 ∷ 0 ∷ 3 ∷ 0x41 ∷ 0xE0 ∷ 0x01 ∷ 0x02 ∷ 0 ∷ 2 ∷ 0x41 ∷ 0x02 ∷ []) ∷
+    example "the counts of E0, 0D and 02 are 2, 1 and 1" (map (countIn (alone .next .server .«ecu_counts»)) (0xE0 ∷ 0x0D ∷ 0x02 ∷ [])) (3 ∷ 2 ∷ 2 ∷ []) ∷
     example "`query_pids` of E0 alone learns no length" (lengthIn (answering (querySays 80 framed (0xE0 ∷ []) 0 true) alike .next .server .«pid_lengths») 0xE0) none ∷
     example "a length of 0, and data over 255 bytes" (map (λ (d : List ℕ). lengthIn (learnLength mode01Lengths 0xE0 (line 0 (0x41 ∷ 0xE0 ∷ d) ∷ [])) 0xE0) ([] ∷ replicate 256 0 ∷ [])) (some 0 ∷ none ∷ []) ∷
     example "multi-PID support by 0C for 0C and 0C, for 0C and 0D, and for 0C"
@@ -83,10 +90,6 @@ learning =
     example "256 occurrences" (ecusGiving false (replicate 256 (value 0x0C 0 []))) 255 ∷
     example "a known length is clamped to the line" (answering (querySays 80 new (0x0C ∷ []) 0 false) "410C1A\r\r>" .text) (0x0C ∷ 0x00 ∷ 0x03 ∷ 0x41 ∷ 0x0C ∷ 0x1A ∷ []) ∷
     example "lines that do not start with 41, or have one byte" (answering (querySays 80 new (0x0C ∷ []) 0 false) "7F0112\r41\r\r>" .text) [] ∷
-    example "a finish out of turn, with room for 17 bytes, and of a store that is short or holds a byte of 80"
-    (finishSays 100 new emptyStore .answer ∷ finishing 17 (querySays 80 framed (0xE0 ∷ []) 0 false) alike .answer ∷ finishSays 100 (withUnder new under.Complete 1) (replicate 4095 0) .answer ∷
-    finishSays 100 (withUnder new under.Complete 1) (0x80 ∷ emptyStore) .answer ∷ [])
-    (refused 1 ∷ refused 6 ∷ refused 6 ∷ refused 9 ∷ []) ∷
     example "a query finished" (clientLent (answering (querySays 80 new (0x0C ∷ []) 0 false) "410C1AF8\r\r>") (replicate 9 9))
     (clientStep (record {
       answer = answer.Values 1;
@@ -102,4 +105,34 @@ learning =
         pending = record { under = under.Idle; got = 0 };
       };
     }) (0x0C ∷ 0x00 ∷ 0x04 ∷ 0x41 ∷ 0x0C ∷ 0x1A ∷ 0xF8 ∷ 9 ∷ 9 ∷ [])) ∷
+    []
+
+-- 0C and 0D asked, and 0C alone; the session when the reply, of 15 bytes, is complete
+abbrev both : ClientSaid
+both = querySays 80 new (0x0C ∷ 0x0D ∷ []) 0 true
+
+abbrev one : ClientSaid
+one = querySays 80 new (0x0C ∷ []) 0 false
+
+abbrev complete : ClientSaid → Client
+complete s = reply (s .next) "410C1AF80D20\r\r>" .next
+
+-- its finish with so much room for 13 bytes of values, and with a store of so many bytes, in which the reply's second CR is now a byte of 80
+abbrev spoilt : ℕ → ℕ → ClientSaid → ClientSaid
+spoilt room size s = finishSays room (complete s) (ascii "410C1AF80D20\r" ++ (0x80 ∷ 62 ∷ replicate (size - 15) 0))
+
+-- finishes that get a number
+abbrev pub numbered : List Example
+numbered =
+    example "a finish out of turn, with room for 17 bytes, and of a store that is short or holds a byte of 80"
+    (finishSays 100 new emptyStore .answer ∷ finishing 17 (querySays 80 framed (0xE0 ∷ []) 0 false) alike .answer ∷ finishSays 100 (withUnder new under.Complete 1) (replicate 4095 0) .answer ∷
+    finishSays 100 (withUnder new under.Complete 1) (0x80 ∷ emptyStore) .answer ∷ [])
+    (refused 1 ∷ refused 6 ∷ refused 6 ∷ refused 9 ∷ []) ∷
+    example "9 comes after 6 for the store, and before 6 for the output" (spoilt 13 4095 both .answer ∷ spoilt 12 4096 both .answer ∷ []) (refused 6 ∷ refused 9 ∷ []) ∷
+    example "9 forgets the last query, and 6 does not" (spoilt 13 4096 both .next .last ∷ spoilt 13 4095 both .next .last ∷ []) ([] ∷ ascii "010C0D" ∷ []) ∷
+    example "9 ends the query" (spoilt 13 4096 both .next .under) under.Idle ∷
+    example "multi-PID support after 9, of `query_pids` and of `query_pid`, and after 6"
+    (map (λ (s : ClientSaid). s .next .server .«multi_pid») (spoilt 13 4096 both ∷ spoilt 13 4096 one ∷ spoilt 13 4095 both ∷ [])) (support.No ∷ support.Unknown ∷ support.Unknown ∷ []) ∷
+    example "6 for the output leaves the session" (finishing 12 both "410C1AF80D20\r\r>" .next) (complete both) ∷
+    example "a byte of 80 past the reply is not looked at" (finishSays 13 (complete both) (ascii "410C1AF80D20\r\r>" ++ replicate 4081 0x80) .answer) (clientAnswer (answer.Values 2)) ∷
     []
