@@ -7,9 +7,9 @@ use mathlib.Core.Logic.{⊎-elim}
 use Prim.Native.Nat.{ℕ, zero, suc, _-_, _≤_, _<_}
 use native.Mathlib.Omega.{arith}
 use lib.Dec.{ltb}
-use lib.ListN.{length}
+use lib.ListN.{length, length-append}
 use lib.Seq.{sets, length-sets}
-use borrow.Author.Tests.{ltb-true, ltb-false}
+use borrow.Author.Tests.{lt-ltb, ltb-true, ltb-false}
 use Rattle.wire.specs.Answer.{Answer, result, refused}
 use Rattle.wire.specs.Text.{ascii, has, high}
 use Rattle.wire.proofs.All.{Bytes}
@@ -79,25 +79,24 @@ finishes c store last ks handed u size low short =
 data Done (t : Round) : Type 0 where
   whole : (c : Client) (store last ks : List ℕ) (handed : List (List ℕ)) → c .under ≡ under.Complete → 4096 ≤ length store → high (replyIn c store) ≡ false → length last ≤ 128 →
       t ≡ completeRound c store last ks handed → Done t
-  much : t .answer ≡ refused 8 → Done t
+  much : t .answer ≡ refused 8 → t .text ≡ [] → Done t
 
 number-goes : (a : Answer Progress) (text : List ℕ) (b : Bench) (h : List (List ℕ)) → a ≡ refused 8 → Goes (finished (record { answer = a; text = text; bench = b; handed = h }))
 number-goes (refused n) text b h q = overlong (let e : n ≡ 8 = cc in ap refused e)
 number-goes (result p) text b h q = from-no cc
 
-number-stops : (a : Answer Progress) (text : List ℕ) (b : Bench) (h : List (List ℕ)) (n : ℕ) (list : List ℕ) → a ≡ refused 8 →
-    onward n (record { answer = a; text = text; bench = b; handed = h }) list ≡ record { answer = a; text = text; bench = b; handed = h }
-number-stops a text b h zero list q = refl
-number-stops (refused m) text b h (suc n) list q = refl
-number-stops (result p) text b h (suc n) list q = from-no cc
+nothing-sent : (a : Answer Progress) (text : List ℕ) (b : Bench) (h : List (List ℕ)) (list : List ℕ) → text ≡ [] →
+    onward 1 (record { answer = a; text = text; bench = b; handed = h }) list ≡ record { answer = a; text = text; bench = b; handed = h }
+nothing-sent a [] b h list q = refl
+nothing-sent a (x ∷ s) b h list q = from-no cc
 
 done-goes : (t : Round) (handed : List (List ℕ)) → Done t → Goes (finished (later handed t))
-done-goes t handed (much e) = number-goes (t .answer) (t .text) (t .bench) (handed ++ t .handed) e
+done-goes t handed (much e n) = number-goes (t .answer) (t .text) (t .bench) (handed ++ t .handed) e
 done-goes t handed (whole c store last ks h u size low short e) =
     subst (λ (t : Round). Goes (finished (later handed t))) (sym e) (finishes c store last ks (handed ++ h) u size low short)
 
 done-stays : (t : Round) (list : List ℕ) → Done t → onward 1 t list ≡ t
-done-stays t list (much e) = number-stops (t .answer) (t .text) (t .bench) (t .handed) 1 list e
+done-stays t list (much e n) = nothing-sent (t .answer) (t .text) (t .bench) (t .handed) list n
 done-stays t list (whole c store last ks h u size low short e) = subst (λ (t : Round). onward 1 t list ≡ t) (sym e) refl
 
 module _ (pids : List ℕ) (count : ℕ) (ls : List Line) (ok : Ready (record { pids = pids; count = count; lines = ls })) where
@@ -126,7 +125,7 @@ module _ (pids : List ℕ) (count : ℕ) (ls : List Line) (ok : Ready (record { 
           settled k sent command list handing body ≡ completeRound d (sets store 0 (prompted body)) next ks′ handed → Done (round sent command list)
       done d ks′ u′ counted q =
           by-test (ltb 4096 (length reply))
-          (λ t. much (replied.reply-fails pids count ls c k store ks server command handing e refl w (ltb-true 4096 (length reply) t)))
+          (λ t. let (n, none) = replied.reply-fails pids count ls c k store ks server command handing e refl w (ltb-true 4096 (length reply) t) in much n none)
           (λ t.
           let h = ltb-false 4096 (length reply) t in
           let low : high (replyIn d (sets store 0 (prompted body))) ≡ false = ap high (replied.stands pids count ls store size d counted h) ∙ reply-low false false true ls in
@@ -165,7 +164,8 @@ module _ (pids : List ℕ) (count : ℕ) (ls : List Line) (ok : Ready (record { 
         let w = replied.waits command.Repeat (replied.asks pids count ls c command.Repeat) store refl refl refl size in
         let still : 4096 ≤ length (sets store 0 (prompted (ascii "?\r\r"))) = omega (arith, length-sets store 0 (prompted (ascii "?\r\r"))) in
         subst (λ (t : Round). Goes (finished (onward 1 t list))) (sym (settles command.Repeat asking (13 ∷ []) list x (ascii "?\r\r") (heard-unknown list) refl w question-plainly))
-        (done-goes _ [] (in-full (withServer c (withRepeat (c .server) support.No)) (sets store 0 (prompted (ascii "?\r\r"))) _ [] still (omega arith)))
+        (rw (lt-ltb 0 (length (text ++ (13 ∷ []))) (omega (arith, length-append text (13 ∷ []))))
+        (done-goes _ [] (in-full (withServer c (withRepeat (c .server) support.No)) (sets store 0 (prompted (ascii "?\r\r"))) _ [] still (omega arith))))
 
     repeated : (server : List ℕ) → length server ≤ 128 → Goes (finished (onward 1 (round (replied.bench pids count ls c command.Repeat store ks server (13 ∷ [])) (13 ∷ []) list) list))
     repeated [] short = unknown

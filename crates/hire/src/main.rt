@@ -1,7 +1,7 @@
 // Reads a bench script from standard input, and prints each query's part of its hire record as a line of hex bytes.
-use hire_text::HireAnswer;
 use libc::STDIN_FILENO;
 use libc::STDOUT_FILENO;
+use wire::Count;
 
 fn main() {
     // One byte more than a script may have.
@@ -10,7 +10,7 @@ fn main() {
     let mut record = [0u8; 65536];
     // Three characters for each byte of the record, and a line for the number: no text is longer.
     let mut out = [0u8; 196620];
-    let HireAnswer::Written(end) = hire_text::hire_text(&script[..n], &mut record, &mut out) else {
+    let Count::Is(end) = hire_text::hire_text(&script[..n], &mut record, &mut out) else {
         return;
     };
     io::write_all(STDOUT_FILENO, &out[..end]);
