@@ -5,9 +5,9 @@ use mathlib.Core.List.{List, [], _∷_, _++_}
 use Prim.Native.Nat.{ℕ, zero, suc, _≤_, _<_}
 use native.Mathlib.Omega.{arith}
 use lib.Dec.{ltb}
-use lib.ListN.{length}
+use lib.ListN.{length, length-append}
 use lib.Seq.{sets, length-sets}
-use borrow.Author.Tests.{ltb-true, ltb-false}
+use borrow.Author.Tests.{lt-ltb, ltb-true, ltb-false}
 use Rattle.wire.specs.Answer.{Answer, result, refused}
 use Rattle.wire.specs.Text.{ascii, has, high}
 use Rattle.wire.proofs.Cases.{by-test, from-no}
@@ -73,26 +73,25 @@ finishes ls c store last ks handed few u size low short =
 data Done (ls : List Line) (t : Round) : Type 0 where
   whole : (c : Client) (store last ks : List ℕ) (handed : List (List ℕ)) → length (replyText false false true ls) ≤ 4096 → c .under ≡ under.Complete → 4096 ≤ length store →
       high (replyIn c store) ≡ false → length last ≤ 128 → t ≡ completeRound c store last ks handed → Done ls t
-  much : 4096 < length (replyText false false true ls) → t .answer ≡ refused 8 → Done ls t
+  much : 4096 < length (replyText false false true ls) → t .answer ≡ refused 8 → t .text ≡ [] → Done ls t
 
 number-goes : (ls : List Line) (a : Answer Progress) (text : List ℕ) (b : Bench) (h : List (List ℕ)) → 4096 < length (replyText false false true ls) → a ≡ refused 8 →
     Goes ls (finished (record { answer = a; text = text; bench = b; handed = h }))
 number-goes ls (refused n) text b h m q = overlong m (let e : n ≡ 8 = cc in ap refused e)
 number-goes ls (result p) text b h m q = from-no cc
 
-number-stops : (a : Answer Progress) (text : List ℕ) (b : Bench) (h : List (List ℕ)) (n : ℕ) (list : List ℕ) → a ≡ refused 8 →
-    onward n (record { answer = a; text = text; bench = b; handed = h }) list ≡ record { answer = a; text = text; bench = b; handed = h }
-number-stops a text b h zero list q = refl
-number-stops (refused m) text b h (suc n) list q = refl
-number-stops (result p) text b h (suc n) list q = from-no cc
+nothing-sent : (a : Answer Progress) (text : List ℕ) (b : Bench) (h : List (List ℕ)) (list : List ℕ) → text ≡ [] →
+    onward 1 (record { answer = a; text = text; bench = b; handed = h }) list ≡ record { answer = a; text = text; bench = b; handed = h }
+nothing-sent a [] b h list q = refl
+nothing-sent a (x ∷ s) b h list q = from-no cc
 
 done-goes : (ls : List Line) (t : Round) (handed : List (List ℕ)) → Done ls t → Goes ls (finished (later handed t))
-done-goes ls t handed (much m e) = number-goes ls (t .answer) (t .text) (t .bench) (handed ++ t .handed) m e
+done-goes ls t handed (much m e n) = number-goes ls (t .answer) (t .text) (t .bench) (handed ++ t .handed) m e
 done-goes ls t handed (whole c store last ks h few u size low short e) =
     subst (λ (t : Round). Goes ls (finished (later handed t))) (sym e) (finishes ls c store last ks (handed ++ h) few u size low short)
 
 done-stays : (ls : List Line) (t : Round) (list : List ℕ) → Done ls t → onward 1 t list ≡ t
-done-stays ls t list (much m e) = number-stops (t .answer) (t .text) (t .bench) (t .handed) 1 list e
+done-stays ls t list (much m e n) = nothing-sent (t .answer) (t .text) (t .bench) (t .handed) list n
 done-stays ls t list (whole c store last ks h few u size low short e) = subst (λ (t : Round). onward 1 t list ≡ t) (sym e) refl
 
 module _ (pids : List ℕ) (count : ℕ) (ls : List Line) (ok : Ready (record { pids = pids; count = count; lines = ls })) where
@@ -121,7 +120,9 @@ module _ (pids : List ℕ) (count : ℕ) (ls : List Line) (ok : Ready (record { 
           settled k sent command list handing body ≡ completeRound d (sets store 0 (prompted body)) next ks′ handed → Done ls (round sent command list)
       done d ks′ u′ counted q =
           by-test (ltb 4096 (length reply))
-          (λ t. let m = ltb-true 4096 (length reply) t in much m (replied.reply-fails pids count ls c k store ks server command handing e refl w m))
+          (λ t.
+          let m = ltb-true 4096 (length reply) t in
+          let (n, none) = replied.reply-fails pids count ls c k store ks server command handing e refl w m in much m n none)
           (λ t.
           let h = ltb-false 4096 (length reply) t in
           let low : high (replyIn d (sets store 0 (prompted body))) ≡ false = ap high (replied.stands pids count ls store size d counted h) ∙ reply-low false false true ls in
@@ -160,7 +161,8 @@ module _ (pids : List ℕ) (count : ℕ) (ls : List Line) (ok : Ready (record { 
         let w = replied.waits command.Repeat (replied.asks pids count ls c command.Repeat) store refl refl refl size in
         let still : 4096 ≤ length (sets store 0 (prompted (ascii "?\r\r"))) = omega (arith, length-sets store 0 (prompted (ascii "?\r\r"))) in
         subst (λ (t : Round). Goes ls (finished (onward 1 t list))) (sym (settles command.Repeat asking (13 ∷ []) list x (ascii "?\r\r") (heard-unknown list) refl w question-plainly))
-        (done-goes ls _ [] (in-full (withServer c (withRepeat (c .server) support.No)) (sets store 0 (prompted (ascii "?\r\r"))) _ [] still (omega arith)))
+        (rw (lt-ltb 0 (length (text ++ (13 ∷ []))) (omega (arith, length-append text (13 ∷ []))))
+        (done-goes ls _ [] (in-full (withServer c (withRepeat (c .server) support.No)) (sets store 0 (prompted (ascii "?\r\r"))) _ [] still (omega arith))))
 
     repeated : (server : List ℕ) → length server ≤ 128 → Goes ls (finished (onward 1 (round (replied.bench pids count ls c command.Repeat store ks server (13 ∷ [])) (13 ∷ []) list) list))
     repeated [] short = unknown

@@ -7,7 +7,7 @@ use mathlib.Core.Logic.{_↔_}
 use mathlib.Core.List.{List, [], _∷_, map}
 use Prim.Native.Nat.{ℕ, suc, _≤_, _<_}
 use lib.ListN.{length, take, getD}
-use Rattle.wire.specs.Answer.{Answer, result, refused}
+use Rattle.wire.specs.Answer.{Answer, result, refused, ifResult}
 use Rattle.group.specs.Group.{Read, got, failed, listOf}
 use Rattle.value.specs.Values.{Value, readRecord}
 use Rattle.value.specs.Same.{SameQueries, SameReadings, SameRecord}
@@ -15,7 +15,7 @@ use Rattle.reply_lines.specs.Lines.{unspaced}
 use Rattle.query.specs.Query.{queryText}
 use Rattle.bench.specs.Script.{Query, script}
 use Rattle.bench.specs.declared.BenchRun.{BenchRun}
-use Rattle.bench.specs.Run.{Run, ifResult, runSays, runAnswer, recorded, runLent}
+use Rattle.bench.specs.Run.{Run, runSays, runAnswer, recorded, runLent}
 use Rattle.agreement.specs.Lines.{GoodLines}
 use Rattle.agreement.specs.Vehicle.{given}
 use Rattle.agreement.specs.Ends.{Reach, stopped, reach}

@@ -12,7 +12,7 @@ use Rattle.pid.specs.Lengths.{mode01Lengths, lengthIn}
 use Rattle.line_list.specs.Lines.{line}
 use Rattle.value.specs.Values.{value}
 use Rattle.reply_values.specs.Learn.{learnLength, ecusGiving}
-use Rattle.reply_values.specs.declared.ReadAnswer.the-variants as read
+use Rattle.wire.specs.declared.Count.the-variants as count
 use Rattle.wire.specs.declared.Refusal.the-variants.{SmallBuffer}
 use Rattle.reply_values.specs.Read.{ReadServed, replyRead, readReply}
 use Rattle.server_state.specs.declared.FeatureSupport.the-variants as support
@@ -73,7 +73,7 @@ learning =
     example "in 17 bytes" (readUnlike 18 .written) 17 ∷
     example "its values" (readUnlike 18 .out) (0xE0 ∷ 0xE9 ∷ 0x0F ∷ 0x04 ∷ 0x41 ∷ 0xE0 ∷ 1 ∷ 2 ∷ 0xE0 ∷ 0xEA ∷ 0x0F ∷ 0x05 ∷ 0x41 ∷ 0xE0 ∷ 1 ∷ 2 ∷ 3 ∷ 9 ∷ []) ∷
     example "no length is learned" (lengthIn (readUnlike 18 .server .«pid_lengths») 0xE0 ∷ lengthIn (answering (querySays 80 framed (0xE0 ∷ []) 0 false) unlike .next .server .«pid_lengths») 0xE0 ∷ []) (none ∷ none ∷ []) ∷
-    example "with room for 16 bytes nothing is learned or written" (readUnlike 16) (replyRead (record { answer = read.Refused SmallBuffer; written = 0; server = framed .server }) (replicate 16 9)) ∷
+    example "with room for 16 bytes nothing is learned or written" (readUnlike 16) (replyRead (record { answer = count.Refused SmallBuffer; written = 0; server = framed .server }) (replicate 16 9)) ∷
     example "which is 6, and 8 for a reply over 4,096 bytes" (readUnlike 16 .answer ∷ readE0 (replicate 4097 13) [] .answer ∷ []) (refused 6 ∷ refused 8 ∷ []) ∷
     example "a length of 1 that is learned cuts the value after it, and the byte left is a PID without data" (alone .text)
     (0xE0 ∷ 0 ∷ 3 ∷ 0x41 ∷ 0xE0 ∷ 0x01 ∷ 0x0D ∷ 0 ∷ 3 ∷ 0x41 ∷ 0x0D ∷ 0x20 ∷ 0xE0 ∷ 0 ∷ 3 ∷ 0x41 ∷ 0xE0 ∷ 0x01 ∷ 0x02 ∷ 0 ∷ 2 ∷ 0x41 ∷ 0x02 ∷ []) ∷

@@ -1,9 +1,9 @@
 // Reads a bench script from standard input, and prints each query's part of its hire record as a line of hex bytes. A read or a write that fails is told on
 // standard error: a program of this language has no exit status.
-use hire_text::HireAnswer;
 use libc::STDERR_FILENO;
 use libc::STDIN_FILENO;
 use libc::STDOUT_FILENO;
+use wire::Count;
 ghost use Rattle.io.specs.Counts.{Counts};
 
 // How many bytes were read, and whether the last read failed.
@@ -39,7 +39,7 @@ fn print_record(script: &[u8]) {
     let mut record = [0u8; 65536];
     // Three characters for each byte of the record, and a line for the number: no text is longer.
     let mut out = [0u8; 196620];
-    let HireAnswer::Written(end) = hire_text::hire_text(script, &mut record, &mut out) else {
+    let Count::Is(end) = hire_text::hire_text(script, &mut record, &mut out) else {
         return;
     };
     if !io::write_all(STDOUT_FILENO, &out[..end]) {

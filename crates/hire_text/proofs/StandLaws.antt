@@ -7,7 +7,7 @@ use native.Mathlib.Omega.{arith}
 use lib.Dec.{ltb}
 use lib.ListN.{length, length-append}
 use borrow.Author.Tests.{ltb-false}
-use Rattle.wire.specs.Answer.{Answer, result, refused}
+use Rattle.wire.specs.Answer.{Answer, result, refused, ifResult}
 use Rattle.wire.specs.Text.{joined}
 use Rattle.wire.proofs.Cases.{by-test}
 use Rattle.wire.proofs.UnlessLaws.{unless-by}
@@ -26,7 +26,7 @@ use Rattle.client_session.specs.Piece.{replyIn}
 use Rattle.client_session.specs.Finish.{givesValues, finishSays}
 use Rattle.client_session.proofs.FinishLaws.{readFor}
 use Rattle.bench.specs.Script.{Query, script}
-use Rattle.bench.specs.Run.{valuesRoom, Bench, initialised, startSays, asking, partOf, finished, part, Run, ifResult, ended, after, asked, runSays}
+use Rattle.bench.specs.Run.{valuesRoom, Bench, initialised, startSays, asking, partOf, finished, part, Run, ended, after, asked, runSays}
 use Rattle.bench.specs.Steps.{standing}
 use Rattle.hire_text.specs.Steps.{IsPart, AreParts}
 

@@ -6,14 +6,12 @@ use Prim.Native.Nat.{ℕ}
 use lib.Dec.{ltb}
 use lib.ListN.{length}
 use lib.Seq.{sets}
-use Rattle.wire.specs.Answer.{Answer, result, refused, number, unless}
+use Rattle.wire.specs.Answer.{Answer, result, refused, countAnswer, unless}
 use Rattle.value.specs.Values.{Value, valuesBytes}
 use Rattle.server_state.specs.declared.ServerState.{ServerState}
 use Rattle.reply_lines.specs.Decode.{replyLines}
 use Rattle.reply_values.specs.Values.{valuesOf, answerOrder}
 use Rattle.reply_values.specs.Learn.{lengthsAfter, learnCounts, multiAfter}
-use Rattle.reply_values.specs.declared.ReadAnswer.{ReadAnswer}
-use Rattle.reply_values.specs.declared.ReadAnswer.the-variants as answer
 use Rattle.reply_values.specs.declared.ReplyRead.{ReplyRead}
 
 -- The values of a reply in the order of an answer, and what is known of the ELM327 after it.
@@ -47,10 +45,5 @@ readReply s pids several reply out =
     (λ n. record { answer = refused n; written = 0; server = s; out = out })
     (record { answer = result (length (r .values)); written = length text; server = r .server; out = sets out 0 text })
 
--- the cases of ReadAnswer
-abbrev pub readAnswer : ReadAnswer → Answer ℕ
-readAnswer (answer.Values count) = result count
-readAnswer (answer.Refused r) = refused (number r)
-
 abbrev pub replyRead : ReplyRead → List ℕ → ReadServed
-replyRead r out = record { answer = readAnswer (r .answer); written = r .written; server = r .server; out = out }
+replyRead r out = record { answer = countAnswer (r .answer); written = r .written; server = r .server; out = out }
