@@ -1,6 +1,5 @@
 -- Demand 3: two runs have equal records exactly when the two vehicles gave the same.
-use mathlib.Core.Path.{_≡_, refl, sym, ap, subst, _∙_}
-use mathlib.Core.Bool.{true, false}
+use mathlib.Core.Path.{_≡_, refl, sym, ap, _∙_}
 use mathlib.Core.List.{List, [], _∷_, _++_, map}
 use mathlib.Core.Logic.{_↔_}
 use Prim.Native.Nat.{ℕ, zero, suc, _-_, _≤_, _<_}
@@ -20,13 +19,12 @@ use Rattle.wire.proofs.All.{Bytes, all-from}
 use Rattle.value.specs.Values.{Value, partFormat, readRecord}
 use Rattle.value.specs.Same.{SameValues, SameQueries}
 use Rattle.value.proofs.RecordLaws.{RecordFits, record-back, same-record}
-use Rattle.reply.specs.Reply.{replyText}
 use Rattle.reply_values.specs.Values.{answerOrder}
 use Rattle.bench.specs.Script.{Query, script}
-use Rattle.bench.specs.Run.{Run, Recorded, runAnswer}
+use Rattle.bench.specs.Run.{Run, Recorded}
 use Rattle.agreement.specs.Vehicle.{given}
-use Rattle.agreement.specs.Ends.{Reach, reach}
-use Rattle.agreement.specs.Demand.{GoodQueries, givens, commands, SameFirst, Drive, Ran, queries, hireRecord, partsStanding, comesTo, GoodRan, reaches, EveryFits, Holds, HoldsFirst, Agreement}
+use Rattle.agreement.specs.Ends.{Reach, tooLong, reach}
+use Rattle.agreement.specs.Demand.{GoodQueries, givens, commands, SameFirst, Drive, Ran, queries, hireRecord, partsStanding, comesTo, GoodRan, reaches, EveryFits, Holds, Agreement}
 use Rattle.agreement.proofs.Finished.{answer-reordered}
 use Rattle.agreement.proofs.Parts.{ordered}
 use Rattle.agreement.proofs.Ran.{take-first, reach-few, length-ordered, Known, run-known, run-refused}
@@ -89,7 +87,7 @@ reach-inside room [] vss = omega arith
 reach-inside room (q ∷ qs) [] = omega arith
 reach-inside room (q ∷ qs) (vs ∷ vss) =
     let bytes = partFormat .write vs in
-    by-test (ltb 4096 (length (replyText false false true (q .lines))))
+    by-test (tooLong q)
     (λ e. rw e (omega arith))
     (λ e.
     by-test (ltb room (length bytes))
@@ -104,7 +102,7 @@ reach-whole : (room : ℕ) (qs : List Query) (vss : List (List Value)) → lengt
 reach-whole room [] vss l a = refl
 reach-whole room (q ∷ qs) [] l a = absurd (omega arith)
 reach-whole room (q ∷ qs) (vs ∷ vss) l a =
-    by-test (ltb 4096 (length (replyText false false true (q .lines))))
+    by-test (tooLong q)
     (λ e. let b = rw e at a in from-no cc)
     (λ e.
     by-test (ltb room (length (partFormat .write vs)))

@@ -27,13 +27,12 @@ use Rattle.client_session.specs.Session.{Client, withServer}
 use Rattle.client_session.specs.Call.{Progress, complete, ClientSaid}
 use Rattle.client_session.specs.Start.{request, sendQuery}
 use Rattle.client_session.specs.Piece.{replyIn}
-use Rattle.client_session.specs.Finish.{finishSays}
 use Rattle.client_session.proofs.StartLaws.{repeats, query-repeated, query-in-full}
 use Rattle.client_session.proofs.PiecesLaws.{Awaiting, prompted}
 use Rattle.bench.specs.Script.{Query}
 use Rattle.bench.specs.Exchange.{Exchanged, exchanged}
 use Rattle.bench.specs.Run as run
-use Rattle.bench.specs.Run.{sendRoom, replyRoom, valuesRoom, Bench, Round, round, onward, later, startSays, Part, partOf, finished, part}
+use Rattle.bench.specs.Run.{sendRoom, replyRoom, Bench, Round, round, onward, later, startSays, Part, partOf, finished, part}
 use Rattle.agreement.proofs.Heard.{quiet, lastCommand, unspaced-short, heard, heard-again, heard-unknown}
 use Rattle.agreement.proofs.Arrive.{question-plainly}
 use Rattle.agreement.proofs.Finished.{finish-any}

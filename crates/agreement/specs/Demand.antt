@@ -7,7 +7,7 @@ use mathlib.Core.Logic.{_↔_}
 use mathlib.Core.List.{List, [], _∷_, map}
 use Prim.Native.Nat.{ℕ, suc, _≤_, _<_}
 use lib.ListN.{length, take, getD}
-use Rattle.wire.specs.Answer.{Answer, result, refused}
+use Rattle.wire.specs.Answer.{result}
 use Rattle.group.specs.Group.{Read, got, failed, listOf}
 use Rattle.value.specs.Values.{Value, readRecord}
 use Rattle.value.specs.Same.{SameQueries, SameReadings, SameRecord}
