@@ -8,7 +8,7 @@ use lib.Dec.{ltb}
 use lib.ListN.{length, take}
 use borrow.Author.Tests.{ltb-true, ltb-false, lt-ltb, le-ltb}
 use Rattle.group.specs.Format.{Each}
-use Rattle.wire.specs.Answer.{Answer, result, refused}
+use Rattle.wire.specs.Answer.{result, refused}
 use Rattle.wire.proofs.Cases.{by-test}
 use Rattle.wire.proofs.All.{Bytes}
 use Rattle.value.specs.Values.{Value, partFormat}
@@ -16,16 +16,16 @@ use Rattle.value.proofs.RecordLaws.{ValuesFit, RecordFits}
 use Rattle.reply.specs.Reply.{replyText}
 use Rattle.reply_values.specs.Values.{answerOrder}
 use Rattle.bench.specs.Script.{Query, script, InLimits}
-use Rattle.bench.proofs.ScriptLaws.{AllAreBytes, script-limits, script-bytes, script-numbers}
+use Rattle.bench.proofs.ScriptLaws.{AllAreBytes, script-limits, script-bytes}
 use Rattle.bench.specs.Run.{Bench, Run, ended, initialised, part, asked, runSays}
 use Rattle.agreement.specs.Vehicle.{given}
-use Rattle.agreement.specs.Ends.{Reach, tooLong, reach, Limited, Ends}
+use Rattle.agreement.specs.Ends.{Reach, tooLong, reach, Limited}
 use Rattle.agreement.specs.Demand.{GoodQueries, givens, commandOf, commands}
 use Rattle.agreement.proofs.Finished.{answer-reordered}
 use Rattle.agreement.proofs.Started.{Between, started}
 use Rattle.agreement.proofs.Asked.{Ready, Outcome, outcome}
 use Rattle.agreement.proofs.Parts.{ordered, givenPart, part-size, given-fits}
-use Rattle.agreement.proofs.Numbers.{Quiet, Goes, goes-on, overlong, part-goes}
+use Rattle.agreement.proofs.AnyQuery.{Quiet, Goes, goes-on, overlong, part-goes}
 
 abbrev AllReady : List Query → Type 0
 AllReady [] = Unit {0}
@@ -243,15 +243,7 @@ module _ (repeat : Bool) (ks s : List ℕ) (bytes : Bytes s) where
       (λ i. record { answer = k .limited .answer room i; parts = (k .limited .parts room ∙ ap (map (partFormat .write)) first) i; handed = k .handed room inside i }) ∙
       ap (λ (r : Reach). record { answer = r .answer; parts = map (partFormat .write) (take (r .fit) (ordered qs)); handed = take (suc (r .fit)) (commands qs) }) same
 
-  -- a script that is refused gets 3 or 5
+  -- a script that is refused is not run
   pub run-refused : (n room : ℕ) → script s ≡ refused n → runSays repeat ks room s ≡ ended n []
   unfolding runSays
   run-refused n room e = rw e refl
-
-  by-script : (a : Answer (List Query)) → script s ≡ a → Ends a (λ room. runSays repeat ks room s)
-  by-script (refused n) e = (script-numbers s n e, λ room. run-refused n room e)
-  by-script (result qs) e = run-known (λ p. 0) 0 qs e tt .limited
-
-  -- what ends a run, on every script, which is bytes
-  pub run-ends : Ends (script s) (λ room. runSays repeat ks room s)
-  run-ends = by-script (script s) refl
