@@ -109,6 +109,8 @@ pub record Holds (d : Drive) : Type 0 where
   -- the parts stand of just those queries, from the first on, that fit the limits; and what ended the run, or that nothing did
   pub stand : partsStanding d ≡ reaches d .fit
   pub answer : runAnswer (d .run .answer) ≡ reaches d .answer
+  -- and where every query fits, each has its part
+  pub whole : EveryFits d → partsStanding d ≡ length (queries d)
   -- "the OBD commands handed to the vehicle are exactly the queries' own texts less spaces, one for each query in the list's order, repeats included"; where 8 or
   -- 6 ends the run, up to the query that ended it
   pub handed : comesTo d .handed ≡ take (suc (partsStanding d)) (commands (queries d))
