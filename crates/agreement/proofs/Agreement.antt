@@ -1,51 +1,51 @@
 -- Demand 3: two runs have equal records exactly when the two vehicles gave the same.
-use mathlib.Core.Path.{_≡_, refl, sym, ap, _∙_}
-use mathlib.Core.List.{List, [], _∷_, map}
+use mathlib.Core.Path.{_≡_, refl, sym, ap, subst, _∙_}
+use mathlib.Core.Bool.{true, false}
+use mathlib.Core.List.{List, [], _∷_, _++_, map}
 use mathlib.Core.Logic.{_↔_}
-use Prim.Native.Nat.{ℕ, zero, suc, _≤_, _<_}
+use Prim.Native.Nat.{ℕ, zero, suc, _-_, _≤_, _<_}
 use native.Mathlib.Omega.{arith}
-use lib.ListN.{length, take, length-take}
+use lib.Dec.{ltb}
+use borrow.Author.Tests.{ltb-true, ltb-false}
+use lib.ListN.{length, take, length-take, length-append}
 use lib.Seq.{sets, take-all}
-use Rattle.group.specs.Format.{Each, writeRow}
+use Rattle.group.specs.Format.{writeRow}
+use Rattle.group.specs.Group.{listOf}
+use Rattle.wire.specs.Answer.{Answer, result, refused}
 use Rattle.wire.specs.Put.{Put}
 use Rattle.wire.specs.Text.{joined}
 use Rattle.wire.proofs.PutLaws.{put-front}
-use Rattle.wire.proofs.All.{all-from}
-use Rattle.group.specs.Group.{listOf}
+use Rattle.wire.proofs.Cases.{by-test, from-no}
+use Rattle.wire.proofs.All.{Bytes, all-from}
 use Rattle.value.specs.Values.{Value, partFormat, readRecord}
 use Rattle.value.specs.Same.{SameValues, SameQueries}
 use Rattle.value.proofs.RecordLaws.{RecordFits, record-back, same-record}
+use Rattle.reply.specs.Reply.{replyText}
 use Rattle.reply_values.specs.Values.{answerOrder}
-use Rattle.bench.specs.Script.{Query}
-use Rattle.bench.specs.Script.{InLimits}
-use Rattle.bench.proofs.ScriptLaws.{script-limits}
+use Rattle.bench.specs.Script.{Query, script}
 use Rattle.bench.specs.Run.{Run, Recorded, runAnswer}
 use Rattle.agreement.specs.Vehicle.{given}
-use Rattle.agreement.specs.Demand.{givens, commands, fitting, SameFirst, Drive, hireRecord, partsStanding, comesTo, EveryFits, Holds, Agreement}
+use Rattle.agreement.specs.Ends.{Reach, reach}
+use Rattle.agreement.specs.Demand.{GoodQueries, givens, commands, SameFirst, Drive, Ran, queries, hireRecord, partsStanding, comesTo, GoodRan, reaches, EveryFits, Holds, HoldsFirst, Agreement}
 use Rattle.agreement.proofs.Finished.{answer-reordered}
-use Rattle.agreement.proofs.Ran.{script-ready, run-told}
-use Rattle.agreement.proofs.Told.{ordered, given-fits, told, fitting-few, told-parts, told-handed, told-inside, told-whole}
+use Rattle.agreement.proofs.Parts.{ordered}
+use Rattle.agreement.proofs.Ran.{take-first, reach-few, length-ordered, Known, run-known, run-refused}
 
 -- ---- the first n of some lists
-
-length-ordered : (qs : List Query) → length (ordered qs) ≡ length qs
-length-ordered [] = refl
-length-ordered (q ∷ qs) = ap suc (length-ordered qs)
 
 fits-first : (n : ℕ) (vss : List (List Value)) → RecordFits vss → RecordFits (take n vss)
 fits-first zero vss h = tt
 fits-first (suc n) [] h = tt
 fits-first (suc n) (vs ∷ vss) h = (h .0, fits-first n vss (h .1))
 
-take-first : (n k : ℕ) (vss : List (List Value)) → n ≤ k → take n (take k vss) ≡ take n vss
-take-first zero k vss h = refl
-take-first (suc n) zero vss h = absurd (omega arith)
-take-first (suc n) (suc k) [] h = refl
-take-first (suc n) (suc k) (vs ∷ vss) h = ap (λ wss. vs ∷ wss) (take-first n k vss (omega arith))
-
 take-whole : (vss : List (List Value)) → take (length vss) vss ≡ vss
 take-whole [] = refl
 take-whole (vs ∷ vss) = ap (λ wss. vs ∷ wss) (take-whole vss)
+
+-- parts as a row of the record
+joined-row : (vss : List (List Value)) → joined (map (partFormat .write) vss) ≡ writeRow partFormat vss
+joined-row [] = refl
+joined-row (vs ∷ vss) = ap (λ s. partFormat .write vs ++ s) (joined-row vss)
 
 -- two records, by the first n queries
 same-first : (n : ℕ) (vss wss : List (List Value)) → RecordFits vss → RecordFits wss → SameFirst n (writeRow partFormat vss) (writeRow partFormat wss) ↔ SameQueries (take n vss) (take n wss)
@@ -81,74 +81,181 @@ same-taken n qs rs =
     let g : (Query → List Value) = λ (q : Query). given (q .lines) in
     rw (take-map n o qs, take-map n o rs, take-map n g qs, take-map n g rs) (same-ordered (take n qs) (take n rs))
 
+-- ---- how far a run goes
+
+-- the parts that stand fit the room
+reach-inside : (room : ℕ) (qs : List Query) (vss : List (List Value)) → length (joined (map (partFormat .write) (take (reach room qs vss .fit) vss))) ≤ room
+reach-inside room [] vss = omega arith
+reach-inside room (q ∷ qs) [] = omega arith
+reach-inside room (q ∷ qs) (vs ∷ vss) =
+    let bytes = partFormat .write vs in
+    by-test (ltb 4096 (length (replyText false false true (q .lines))))
+    (λ e. rw e (omega arith))
+    (λ e.
+    by-test (ltb room (length bytes))
+    (λ f. rw (e, f) (omega arith))
+    (λ f.
+    let left = room - length bytes in
+    let rest = joined (map (partFormat .write) (take (reach left qs vss .fit) vss)) in
+    rw (e, f) (omega (arith, length-append bytes rest, reach-inside left qs vss, ltb-false room (length bytes) f))))
+
+-- where nothing ends it, to the end
+reach-whole : (room : ℕ) (qs : List Query) (vss : List (List Value)) → length vss ≡ length qs → reach room qs vss .answer ≡ result tt → reach room qs vss .fit ≡ length qs
+reach-whole room [] vss l a = refl
+reach-whole room (q ∷ qs) [] l a = absurd (omega arith)
+reach-whole room (q ∷ qs) (vs ∷ vss) l a =
+    by-test (ltb 4096 (length (replyText false false true (q .lines))))
+    (λ e. let b = rw e at a in from-no cc)
+    (λ e.
+    by-test (ltb room (length (partFormat .write vs)))
+    (λ f. let b = rw (e, f) at a in from-no cc)
+    (λ f. let b = rw (e, f) at a in rw (e, f) (ap suc (reach-whole (room - length (partFormat .write vs)) qs vss (omega arith) b))))
+
+length-givens : (qs : List Query) → length (givens qs) ≡ length qs
+length-givens [] = refl
+length-givens (q ∷ qs) = ap suc (length-givens qs)
+
 -- ---- one run
 
--- it comes to what the script alone tells
-ran : (d : Drive) → comesTo d ≡ told (length (d .lentBuffer)) (d .queries)
-ran d =
-    let ready = script-ready (d .scriptBytes) (d .queries) (all-from (λ b. b < 256) (d .scriptBytes) (d .bytes)) (d .reads) in
-    run-told (d .lengths) (d .repeat) (d .pieces) (length (d .lentBuffer)) (d .scriptBytes) (d .queries) (d .reads) ready (d .lines)
+-- What is known of a run whose first n queries are the demand's: how many parts stand, and of which values.
+record Stands (n : ℕ) (d : Drive) : Type 0 where
+  values : List (List Value)
+  each : length values ≡ length (queries d)
+  fits : RecordFits values
+  count : ℕ
+  few : count ≤ length values
+  parts : comesTo d .parts ≡ map (partFormat .write) (take count values)
+  inside : length (joined (map (partFormat .write) (take count values))) ≤ length (d .lentBuffer)
+  first : take n values ≡ take n (ordered (queries d))
+  fit : count < n → count ≡ reaches d .fit
+  answer : count < n → comesTo d .answer ≡ reaches d .answer
+  whole : length (queries d) ≤ n → EveryFits d → length (queries d) ≤ count
+  handed : count < n → comesTo d .handed ≡ take (suc count) (commands (queries d))
+  before : n ≤ count → take n (comesTo d .handed) ≡ take n (commands (queries d))
 
--- and its values can be read back
-fits-all : (qs : List Query) → Each InLimits qs → RecordFits (ordered qs)
-fits-all [] l = tt
-fits-all (q ∷ qs) l = (answer-reordered (given (q .lines)) .fit (given-fits (q .lines) (l .0 .fit)), fits-all qs (l .1))
-
-fits : (d : Drive) → RecordFits (ordered (d .queries))
-fits d = fits-all (d .queries) (script-limits (d .scriptBytes) (d .queries) (d .reads))
-
-module _ (d : Drive) where
+module _ (d : Drive) (r : Ran d) where
   abbrev room : ℕ
   room = length (d .lentBuffer)
 
-  abbrev count : ℕ
-  count = fitting room (d .queries)
+  bytes : Bytes (d .scriptBytes)
+  bytes = all-from (λ b. b < 256) (d .scriptBytes) (r .bytes)
 
-  abbrev parts : List (List Value)
-  parts = take count (ordered (d .queries))
+  module _ (L : ℕ → ℕ) (n : ℕ) where
+    -- where every query is the demand's and fits, all parts stand
+    every-stands : (qs : List Query) (run : ℕ → Run) (k : Known n qs run) → length qs ≤ n → reach room qs (givens qs) .answer ≡ result tt →
+        length qs ≤ reach room qs (k .limited .values) .fit
+    every-stands qs run k l f =
+        let vss = k .limited .values in
+        by-test (ltb (reach room qs vss .fit) (length qs))
+        (λ t.
+        let same = k .reached room (omega (arith, ltb-true (reach room qs vss .fit) (length qs) t)) in
+        omega (arith, ap (λ (r : Reach). r .fit) same, reach-whole room qs (givens qs) (length-givens qs) f))
+        (λ t. ltb-false (reach room qs vss .fit) (length qs) t)
 
-  parts-fit : RecordFits parts
-  parts-fit = fits-first count (ordered (d .queries)) (fits d)
+    by-script : (a : Answer (List Query)) → script (d .scriptBytes) ≡ a → GoodQueries L (take n (queries d)) → Stands n d
+    by-script (refused m) e good =
+        let run = run-refused (d .repeat) (d .pieces) (d .scriptBytes) bytes m room e in
+        record {
+          values = [];
+          each = rw e refl;
+          fits = tt;
+          count = 0;
+          few = omega arith;
+          parts = ap (λ (r : Run). r .parts) run;
+          inside = omega arith;
+          first = rw e refl;
+          fit = λ h. rw e refl;
+          answer = λ h. ap (λ (r : Run). r .answer) run ∙ rw e refl;
+          whole = λ l f. rw e (omega arith);
+          handed = λ h. ap (λ (r : Run). r .handed) run ∙ rw e refl;
+          before = λ h. ap (λ (r : Run). take n (r .handed)) run ∙ rw e refl;
+        }
+    by-script (result qs) e good =
+        let k = run-known (d .repeat) (d .pieces) (d .scriptBytes) bytes L n qs e (rw e at good) in
+        let vss = k .limited .values in
+        record {
+          values = vss;
+          each = rw e (k .limited .each);
+          fits = k .fits;
+          count = reach room qs vss .fit;
+          few = reach-few room qs vss;
+          parts = k .limited .parts room;
+          inside = reach-inside room qs vss;
+          first = rw e (k .first);
+          fit = λ h. rw e (ap (λ (r : Reach). r .fit) (k .reached room h));
+          answer = λ h. rw e (k .limited .answer room ∙ ap (λ (r : Reach). r .answer) (k .reached room h));
+          whole = λ l f. rw e (every-stands qs _ k (rw e at l) (rw e at f));
+          handed = λ h. rw e (k .handed room h);
+          before = λ h. rw e (k .before room h);
+        }
 
-  count-parts : length parts ≡ count
-  count-parts = omega (arith, length-take count (ordered (d .queries)), length-ordered (d .queries), fitting-few room (d .queries))
+    stands : GoodQueries L (take n (queries d)) → Stands n d
+    stands good = by-script (script (d .scriptBytes)) refl good
 
-  -- what stands in the buffer are the parts of the queries that fit
-  record-is : hireRecord d ≡ writeRow partFormat parts
-  record-is =
-      let w : d .run .written ≡ length (joined (comesTo d .parts)) = ap (λ (x : Recorded). x .written) (d .ran) in
-      let b : d .buffer ≡ sets (d .lentBuffer) 0 (joined (comesTo d .parts)) = ap (λ (x : Recorded). x .out) (d .ran) in
-      let inside : length (joined (comesTo d .parts)) ≤ room = rw (ran d) (told-inside room (d .queries)) in
-      let put : Put (d .lentBuffer) 0 (joined (comesTo d .parts)) (d .run .written) (d .buffer) = record { next = omega arith; bytes = b } in
-      put-front put ∙ take-all room (joined (comesTo d .parts)) inside ∙ ap (λ (r : Run). joined (r .parts)) (ran d) ∙ told-parts room (d .queries)
+  module _ (n : ℕ) (t : Stands n d) where
+    abbrev standing : List (List Value)
+    standing = take (t .count) (t .values)
 
-  stand-is : partsStanding d ≡ count
-  stand-is = ap (λ s. length (listOf (readRecord s))) record-is ∙ ap (λ r. length (listOf r)) (record-back parts parts-fit) ∙ count-parts
+    standing-fits : RecordFits standing
+    standing-fits = fits-first (t .count) (t .values) (t .fits)
 
-  answer-is : runAnswer (d .run .answer) ≡ told room (d .queries) .answer
-  answer-is = ap (λ (x : Recorded). x .answer) (d .ran) ∙ ap (λ (r : Run). r .answer) (ran d)
+    -- what stands in the buffer is the row of these parts, since they fit into it
+    record-is : hireRecord d ≡ writeRow partFormat standing
+    record-is =
+        let w : d .run .written ≡ length (joined (comesTo d .parts)) = ap (λ (x : Recorded). x .written) (r .ran) in
+        let b : d .buffer ≡ sets (d .lentBuffer) 0 (joined (comesTo d .parts)) = ap (λ (x : Recorded). x .out) (r .ran) in
+        let inside : length (joined (comesTo d .parts)) ≤ room = rw (t .parts) (t .inside) in
+        let put : Put (d .lentBuffer) 0 (joined (comesTo d .parts)) (d .run .written) (d .buffer) = record { next = omega arith; bytes = b } in
+        put-front put ∙ take-all room (joined (comesTo d .parts)) inside ∙ ap joined (t .parts) ∙ joined-row standing
 
-  holds : Holds d
-  holds = record {
-    stand = stand-is;
-    whole = λ e. answer-is ∙ told-whole room (d .queries) e;
-    handed = ap (λ (r : Run). r .handed) (ran d) ∙ told-handed room (d .queries) ∙ ap (λ n. take (suc n) (commands (d .queries))) (sym stand-is);
-  }
+    stand-is : partsStanding d ≡ t .count
+    stand-is =
+        ap (λ s. length (listOf (readRecord s))) record-is ∙
+        ap (λ r. length (listOf r)) (record-back standing standing-fits) ∙ (omega (arith, length-take (t .count) (t .values), t .few))
 
-  whole-parts : EveryFits d → parts ≡ ordered (d .queries)
-  whole-parts e = ap (λ n. take n (ordered (d .queries))) (e ∙ sym (length-ordered (d .queries))) ∙ take-whole (ordered (d .queries))
-  -- ---- two runs
+  holds : GoodRan d → Holds d
+  holds (L, good) =
+      let n = suc (partsStanding d) in
+      let t = stands L n good in
+      let s = stand-is n t in
+      let ran : t .count < n = omega (arith, s) in
+      record {
+        stand = s ∙ t .fit ran;
+        answer = ap (λ (x : Recorded). x .answer) (r .ran) ∙ t .answer ran;
+        handed = t .handed ran ∙ ap (λ n. take (suc n) (commands (queries d))) (sym s);
+      }
 
-pub agreement : (d e : Drive) → Agreement d e
-agreement d e = record {
-  one = holds d;
-  two = holds e;
-  equal = λ f g.
-      rw (record-is d, record-is e, whole-parts d f, whole-parts e g)
-      (iff-then (same-record (ordered (d .queries)) (ordered (e .queries)) (fits d) (fits e)) (same-ordered (d .queries) (e .queries)));
-  before = λ n h i.
-      let first₁ = take-first n (count d) (ordered (d .queries)) (omega (arith, stand-is d)) in
-      let first₂ = take-first n (count e) (ordered (e .queries)) (omega (arith, stand-is e)) in
-      rw (record-is d, record-is e)
-      (iff-then (same-first n (parts d) (parts e) (parts-fit d) (parts-fit e)) (rw (first₁, first₂) (same-taken n (d .queries) (e .queries))));
+  -- the first n parts are those of what the vehicle gave
+  first-is : (n : ℕ) (t : Stands n d) → n ≤ partsStanding d → take n (standing n t) ≡ take n (ordered (queries d))
+  first-is n t h = take-first n (t .count) (t .values) (omega (arith, stand-is n t)) ∙ t .first
+
+  -- and where all fit, all of them are
+  all-is : (t : Stands (length (queries d)) d) → EveryFits d → standing (length (queries d)) t ≡ ordered (queries d)
+  all-is t f =
+      let n = length (queries d) in
+      let whole : t .count ≡ n = omega (arith, t .whole (omega arith) f, t .few, t .each) in
+      ap (λ k. take k (t .values)) whole ∙ t .first ∙ ap (λ k. take k (ordered (queries d))) (sym (length-ordered (queries d))) ∙ take-whole (ordered (queries d))
+
+-- ---- two runs
+
+pub agreement : (d e : Drive) → Ran d → Ran e → Agreement d e
+agreement d e r s = record {
+  one = holds d r;
+  two = holds e s;
+  equal = λ g h f i.
+      let t = stands d r (g .0) (length (queries d)) (g .1) in
+      let u = stands e s (h .0) (length (queries e)) (h .1) in
+      let same = same-record (standing d r _ t) (standing e s _ u) (standing-fits d r _ t) (standing-fits e s _ u) in
+      rw (record-is d r _ t, record-is e s _ u) (iff-then same (rw (all-is d r t f, all-is e s u i) (same-ordered (queries d) (queries e))));
+  before = λ n h i g k.
+      let t = stands d r (g .0) n (g .1) in
+      let u = stands e s (k .0) n (k .1) in
+      let same = same-first n (standing d r n t) (standing e s n u) (standing-fits d r n t) (standing-fits e s n u) in
+      record {
+        equal =
+            rw (record-is d r n t, record-is e s n u)
+            (iff-then same (rw (first-is d r n t h, first-is e s n u i) (same-taken n (queries d) (queries e))));
+        one = t .before (omega (arith, stand-is d r n t));
+        two = u .before (omega (arith, stand-is e s n u));
+      };
 }

@@ -1,5 +1,5 @@
 -- What the bench run's delivery of a reply comes to, whatever the piece lengths: a reply of at most 4,096 bytes completes, a longer one gets 8.
-use mathlib.Core.Path.{_≡_, refl, sym, ap, _∙_}
+use mathlib.Core.Path.{_≡_, refl, sym, ap, subst, _∙_}
 use mathlib.Core.Bool.{true, false, cond}
 use mathlib.Core.List.{List, [], _∷_, _++_, append-assoc}
 use Prim.Native.Nat.{ℕ, _+_, _≤_, _<_}
@@ -55,6 +55,10 @@ reply-stands c store r n short size =
 
 -- ---- a reply that is too long
 
+-- it gets 8, and nothing is sent
+abbrev pub TooLong : ClientSaid → Type 0
+TooLong d = (d .answer ≡ refused 8) × (d .text ≡ [])
+
 -- a piece p of such a reply, of which the store holds st and the pieces ps are still to come
 module _ (room : ℕ) (k : Command) (c : Client) (store st p : List ℕ) (ps : List (List ℕ)) (body : List ℕ)
     (w : Awaiting room k c store st) (prompt : has 62 body ≡ false) (low : high body ≡ false) (long : 4096 ≤ length body)
@@ -66,11 +70,11 @@ module _ (room : ℕ) (k : Command) (c : Client) (store st p : List ℕ) (ps : L
   step d = let s = storeAfter c (d .answer) p store in cond (awaits (d .answer)) (fed room (d .next) s ps) (record { said = d; store = s; left = ps })
 
   -- the first with which the reply is too long gets 8
-  past : 4096 < length st + length p → fed room c store (p ∷ ps) .said .answer ≡ refused 8
+  past : 4096 < length st + length p → TooLong (fed room c store (p ∷ ps) .said)
   past h =
       let e : pieceSays room c p store ≡ clientFailing c 8 =
       piece-joined room c p store (w .turn) (w .reply) (w .out) (w .size) (z .1) ∙ takes-too-much k c p store (λ n. omega (arith, z .0)) (omega (arith, w .got)) in
-      ap (λ (d : ClientSaid). step d .said .answer) e
+      (ap (λ (d : ClientSaid). step d .said .answer) e, ap (λ (d : ClientSaid). step d .said .text) e)
 
   module _ (fits : length st + length p ≤ 4096) where
     low-yet : high (st ++ p) ≡ false
@@ -86,30 +90,30 @@ module _ (room : ℕ) (k : Command) (c : Client) (store st p : List ℕ) (ps : L
         absurd (omega (arith, ap length rest, ap length empty, length-append (st ++ p) (joined ps), length-append st p, length-append body (62 ∷ []))))
         (λ e. e)
 
-    within : fed room c store (p ∷ ps) .said .answer ≡ fed room (withUnder c (under.Awaiting k) (length (st ++ p))) (sets store (c .got) p) ps .said .answer
+    within : fed room c store (p ∷ ps) .said ≡ fed room (withUnder c (under.Awaiting k) (length (st ++ p))) (sets store (c .got) p) ps .said
     within =
         let d = piece-more room k c store st p w (z .0) (z .1) fits low-yet none-in in
         let s = piece-stored room k c store st p w (z .0) (z .1) fits low-yet in
-        λ i. cond (awaits (d i .answer)) (fed room (d i .next) (s i) ps) (record { said = d i; store = s i; left = ps }) .said .answer
+        λ i. cond (awaits (d i .answer)) (fed room (d i .next) (s i) ps) (record { said = d i; store = s i; left = ps }) .said
 
     later : Awaiting room k (withUnder c (under.Awaiting k) (length (st ++ p))) (sets store (c .got) p) (st ++ p)
     later = awaiting-more room k c store st p w (z .0) (z .1) fits low-yet
 
 fed-overflows : (room : ℕ) (k : Command) (c : Client) (store st : List ℕ) (ps : List (List ℕ)) (body : List ℕ) → Awaiting room k c store st →
-    has 62 body ≡ false → high body ≡ false → 4096 ≤ length body → length st ≤ 4096 → Sized ps → st ++ joined ps ≡ prompted body → fed room c store ps .said .answer ≡ refused 8
+    has 62 body ≡ false → high body ≡ false → 4096 ≤ length body → length st ≤ 4096 → Sized ps → st ++ joined ps ≡ prompted body → TooLong (fed room c store ps .said)
 fed-overflows room k c store st [] body w prompt low long few z q = absurd (omega (arith, ap length q, length-append st [], length-append body (62 ∷ [])))
 fed-overflows room k c store st (p ∷ ps) body w prompt low long few z q =
     by-test (ltb 4096 (length st + length p))
     (λ t. past room k c store st p ps body w prompt low long z q (ltb-true 4096 (length st + length p) t))
     (λ t.
     let fits = ltb-false 4096 (length st + length p) t in
-    within room k c store st p ps body w prompt low long z q fits ∙
-    fed-overflows room k _ _ (st ++ p) ps body (later room k c store st p ps body w prompt low long z q fits) prompt low long
-    (omega (arith, length-append st p)) (z .2) (rest room k c store st p ps body w prompt low long z q))
+    subst TooLong (sym (within room k c store st p ps body w prompt low long z q fits))
+    (fed-overflows room k _ _ (st ++ p) ps body (later room k c store st p ps body w prompt low long z q fits) prompt low long
+    (omega (arith, length-append st p)) (z .2) (rest room k c store st p ps body w prompt low long z q)))
 
 -- a reply of more than 4,096 bytes gets 8
 pub overflows : (k : Command) (c : Client) (store ks body : List ℕ) → Awaiting sendRoom k c store [] → has 62 body ≡ false → high body ≡ false → 4096 ≤ length body →
-    delivered sendRoom c store ks (prompted body) .said .answer ≡ refused 8
+    TooLong (delivered sendRoom c store ks (prompted body) .said)
 unfolding delivered
 overflows k c store ks body w prompt low long =
     let r = prompted body in
@@ -140,7 +144,7 @@ question-plainly = record { prompt = refl; low = refl; short = omega arith }
 
 -- and a reply to lines, or to none, gets 8 when it has more than 4,096 bytes
 module _ (k : Command) (c : Client) (store ks : List ℕ) (w : Awaiting sendRoom k c store []) (ls : List Line) where
-  pub reply-overflows : 4096 < length (replyText false false true ls) → delivered sendRoom c store ks (replyText false false true ls) .said .answer ≡ refused 8
+  pub reply-overflows : 4096 < length (replyText false false true ls) → TooLong (delivered sendRoom c store ks (replyText false false true ls) .said)
   reply-overflows h =
       rw (reply-prompt false false true ls)
       (overflows k c store ks (replyBody false false true ls) w (body-prompt false false true ls) (body-low ls) (omega (arith, body-length ls)))

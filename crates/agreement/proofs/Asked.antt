@@ -104,10 +104,11 @@ module _ (L : ℕ → ℕ) (pids : List ℕ) (count : ℕ) (l : Line) (ls : List
   }
 
   -- a number ends the query
-  stops : (a : Answer Progress) (sends : List ℕ) (b : Bench) (h : List (List ℕ)) → a ≡ refused 8 → h ≡ unspaced text ∷ [] →
+  stops : (a : Answer Progress) (sends : List ℕ) (b : Bench) (h : List (List ℕ)) → (a ≡ refused 8) × (sends ≡ []) → h ≡ unspaced text ∷ [] →
       Fails query (finished (onward 1 (record { answer = a; text = sends; bench = b; handed = h }) list))
-  stops (refused n) sends b h q r = record { answer = let e : n ≡ 8 = cc in ap refused e; handed = r }
-  stops (result p) sends b h q r = from-no cc
+  stops (refused n) [] b h (q, _) r = record { answer = let e : n ≡ 8 = cc in ap refused e; handed = r }
+  stops (refused n) (x ∷ s) b h (_, q) r = from-no cc
+  stops (result p) sends b h (q, _) r = from-no cc
 
   module _ (ok : Ready query) (good : GoodLines L (l ∷ ls)) where
     finishes : (c : Client) (store ks : List ℕ) → c .under ≡ under.Complete → c .server .framing ≡ true → c .query .pids ≡ pids → Agree L (c .server .«pid_lengths») →
@@ -126,6 +127,7 @@ module _ (L : ℕ → ℕ) (pids : List ℕ) (count : ℕ) (l : Line) (ls : List
             agree = g .agree;
             size = size;
             last = unspaced text;
+            short = unspaced-short pids count (ok .few);
             server = refl;
             linked = λ h. ap unspaced (sym (o .last ∙ last));
           };

@@ -19,14 +19,16 @@ use Rattle.reply.proofs.ByteLaws.{reply-low}
 use Rattle.reply_lines.specs.Decode.{replyLines}
 use Rattle.reply_values.specs.Values.{valuesOf, answerOrder}
 use Rattle.reply_values.specs.Learn.{lengthsAfter}
-use Rattle.reply_values.specs.Read.{Reading, reading}
+use Rattle.reply_values.specs.Read.{Reading}
 use Rattle.reply_values.proofs.SizeLaws.{reply-size}
+use Rattle.reply_values.proofs.WalkLaws.{values-fit}
+use Rattle.reply_values.proofs.ReadLaws.{reply-known}
 use Rattle.client_session.specs.declared.Under.the-variants as under
-use Rattle.client_session.specs.Session.{Client, isComplete}
+use Rattle.client_session.specs.Session.{Client, isComplete, withUnder, withServer}
 use Rattle.client_session.specs.Call.{values, ClientSaid, clientSaying}
 use Rattle.client_session.specs.Piece.{replyIn}
-use Rattle.client_session.specs.Finish.{question, taught, finishSays}
-use Rattle.client_session.proofs.FinishLaws.{finish-low}
+use Rattle.client_session.specs.Finish.{finishSays}
+use Rattle.client_session.proofs.FinishLaws.{readFor, finish-low}
 use Rattle.bench.specs.Run.{valuesRoom}
 use Rattle.line_list.proofs.LineLaws.{AllBytes}
 use Rattle.agreement.specs.Vehicle.{given}
@@ -65,14 +67,21 @@ pub record Over (c n : Client) : Type 0 where
 
 -- what a finish says of a reply whose values fit
 abbrev withValues : Client → Reading → ClientSaid
-withValues c r = clientSaying (values (length (r .values))) (taught c r) (valuesBytes (r .values))
+withValues c r = clientSaying (values (length (r .values))) (withUnder (withServer c (r .server)) under.Idle 0) (valuesBytes (r .values))
 
-over-with : (c : Client) (r : Reading) → Over c (taught c r)
-over-with c r = record { under = refl; got = refl; query = refl; wanted = refl; framing = refl; repeat = refl; last = refl }
+-- A finish f of the query of a session c, with some values.
+pub record Finishes (c : Client) (vs : List Value) (f : ClientSaid) : Type 0 where
+  pub answer : f .answer ≡ result (values (length vs))
+  pub text : f .text ≡ valuesBytes vs
+  pub fit : ValuesFit vs
+  pub over : Over c (f .next)
+
+over-with : (c : Client) (reply : List ℕ) → Over c (withValues c (readFor c reply) .next)
+over-with c reply = record { under = refl; got = refl; query = refl; wanted = refl; framing = refl; repeat = refl; last = refl }
 
 module _ (c : Client) (store : List ℕ) (turn : isComplete (c .under) ≡ true) (size : 4096 ≤ length store) (low : high (replyIn c store) ≡ false) where
   -- a reply has at most 4,096 bytes below 80 hex, so its values fit
-  pub finish-fits : finishSays valuesRoom c store ≡ withValues c (reading (question c) (replyIn c store))
+  pub finish-fits : finishSays valuesRoom c store ≡ withValues c (readFor c (replyIn c store))
   unfolding unless
   finish-fits =
       let reply = replyIn c store in
@@ -83,11 +92,14 @@ module _ (c : Client) (store : List ℕ) (turn : isComplete (c .under) ≡ true)
       finish-low valuesRoom c store turn size low ∙
       rw (le-ltb valuesRoom (length (valuesBytes (answerOrder vs))) (omega (arith, answer-reordered vs .size)))
 
-  -- so the finish gets no number
-  pub finish-any : (n : ℕ) × (finishSays valuesRoom c store .answer ≡ result (values n)) × Over c (finishSays valuesRoom c store .next)
+  -- so the finish gets no number, and gives values that fit a record
+  pub finish-any : (vs : List Value) × Finishes c vs (finishSays valuesRoom c store)
   finish-any =
-      let r = reading (question c) (replyIn c store) in
-      rw finish-fits (length (r .values), refl, over-with c r)
+      let reply = replyIn c store in
+      let ls = replyLines (c .server .framing) reply in
+      let fit = values-fit (lengthsThen c ls) ls (reply-known (c .server .framing) reply) in
+      rw finish-fits
+      (readFor c reply .values, record { answer = refl; text = refl; fit = answer-reordered (valuesOf (lengthsThen c ls) ls) .fit fit; over = over-with c reply })
 
 -- ---- the reply to a run's lines
 
@@ -124,13 +136,13 @@ finish-given L c store l ls turn size framed r fit bytes good pids a =
     let found : valuesOf lengths (map known (l ∷ ls)) ≡ given (l ∷ ls) =
     values-agree L lengths a′ (map known (l ∷ ls)) good′ (known-bytes (l ∷ ls) bytes) ∙ sym (given-values (l ∷ ls) bytes) in
     let says = finish-fits c store turn size (ap high r ∙ reply-low false false true (l ∷ ls)) in
-    let gives = reading (question c) (replyIn c store) in
+    let gives = readFor c (replyIn c store) in
     let gave : gives .values ≡ answerOrder (given (l ∷ ls)) = ap (λ ls. answerOrder (valuesOf (lengthsThen c ls) ls)) back ∙ ap answerOrder found in
-    let same : gives .lengths ≡ lengths = ap (lengthsThen c) back in
+    let same : gives .server .«pid_lengths» ≡ lengths = ap (lengthsThen c) back in
     rw says
     (record {
       answer = ap (λ n. result (values n)) (ap length gave ∙ answer-reordered (given (l ∷ ls)) .count);
       text = ap valuesBytes gave;
-      over = over-with c gives;
+      over = over-with c (replyIn c store);
       agree = rw same a′;
     })

@@ -7,9 +7,10 @@ pub mod Finished
 pub mod Started
 pub mod Replied
 pub mod Asked
-pub mod Told
-pub mod Ran
+pub mod Parts
 pub mod Numbers
+pub mod Ran
 pub mod Agreement
-mod Worked
 pub mod Witness
+mod Needed
+mod Worked

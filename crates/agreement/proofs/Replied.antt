@@ -1,5 +1,5 @@
 -- A query that waits for its reply, and what the reply does: it completes the query, or gets 8 where it has over 4,096 bytes.
-use mathlib.Core.Path.{_≡_, refl, sym, ap, _∙_}
+use mathlib.Core.Path.{_≡_, refl, sym, ap, subst, _∙_}
 use mathlib.Core.Bool.{Bool, true, false, not}
 use mathlib.Core.List.{List, [], _∷_}
 use Prim.Native.Nat.{ℕ, _≤_, _<_}
@@ -27,7 +27,7 @@ use Rattle.bench.specs.Exchange.{Exchanged, exchanged}
 use Rattle.bench.specs.Steps.{delivered}
 use Rattle.bench.specs.Run.{sendRoom, replyRoom, Bench, round, startSays}
 use Rattle.agreement.proofs.Heard.{quiet}
-use Rattle.agreement.proofs.Arrive.{reply-stands, plainly, no-question, reply-overflows}
+use Rattle.agreement.proofs.Arrive.{TooLong, reply-stands, plainly, no-question, reply-overflows}
 use Rattle.agreement.proofs.Started.{settled, settles}
 
 -- a query of several PIDs
@@ -70,12 +70,11 @@ module _ (pids : List ℕ) (count : ℕ) (ls : List Line) where
 
     -- the server replies with the lines
     module _ (x : Exchanged) (e : exchanged replyRoom (quiet server) command (linesBytes ls) ≡ x) (q : x .text ≡ reply) (w : Awaiting sendRoom k (asks c k) store []) where
-      pub reply-fails : 4096 < length reply → round bench command (linesBytes ls) .answer ≡ refused 8
+      pub reply-fails : 4096 < length reply → (round bench command (linesBytes ls) .answer ≡ refused 8) × (round bench command (linesBytes ls) .text ≡ [])
       unfolding delivered
       reply-fails h =
-          ap (λ (x : Exchanged). delivered sendRoom (asks c k) store ks (x .text) .said .answer) e ∙
-          ap (λ r. delivered sendRoom (asks c k) store ks r .said .answer) q ∙
-          reply-overflows k (asks c k) store ks w ls h
+          let same = ap (λ (x : Exchanged). x .text) e ∙ q in
+          subst (λ r. TooLong (delivered sendRoom (asks c k) store ks r .said)) (sym same) (reply-overflows k (asks c k) store ks w ls h)
 
       pub reply-comes : length reply ≤ 4096 → round bench command (linesBytes ls) ≡ settled k bench command (linesBytes ls) x body
       reply-comes h = settles k bench command (linesBytes ls) x body e (q ∙ reply-prompt false false true ls) w (plainly ls h)

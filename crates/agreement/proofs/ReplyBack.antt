@@ -7,7 +7,7 @@ use Prim.Native.Nat.{ℕ, zero, suc, _≤_, _<_}
 use native.Mathlib.Omega.{arith}
 use lib.ListN.{length}
 use Rattle.group.specs.Format.{Each}
-use Rattle.hex.specs.Digits.{hexByte, hexId, hexBytes}
+use Rattle.hex.specs.Digits.{hexDigits, hexByte, hexBytes}
 use Rattle.line_list.specs.Lines.{Line, line, Fits}
 use Rattle.reply.specs.Shape.{chipReply}
 use Rattle.reply.specs.Reply.{ecuId, furtherHex, dataHex, lineText, replyText}
@@ -30,7 +30,7 @@ plainly (b ∷ s) = rw (further s)
 
 -- a line's text with its header and no spaces
 abbrev chars : Line → List ℕ
-chars l = hexId (ecuId (l .ecu)) ++ (hexByte (length (l .bytes)) ++ hexBytes (l .bytes))
+chars l = hexDigits 3 (ecuId (l .ecu)) ++ (hexByte (length (l .bytes)) ++ hexBytes (l .bytes))
 
 some-chars : (l : Line) → 0 < length (chars l)
 some-chars l = omega arith

@@ -4,6 +4,7 @@ use mathlib.Core.Bool.{Bool, true, false}
 use mathlib.Core.List.{List, []}
 use Prim.Native.Nat.{ℕ, suc, _≤_, _<_}
 use native.Mathlib.Omega.{arith}
+use lib.Dec.{ltb}
 use lib.ListN.{length, length-replicate}
 use lib.Seq.{sets, length-sets}
 use Rattle.wire.specs.Answer.{result, unless}
@@ -76,6 +77,7 @@ pub record Between (L : ℕ → ℕ) (b : Bench) : Type 0 where
   pub size : 4096 ≤ length (b .store)
   -- the server's last command is the client's last query less spaces
   pub last : List ℕ
+  pub short : length last ≤ 128
   pub server : b .server ≡ quiet last
   pub linked : 0 < length (b .client .last) → last ≡ unspaced (b .client .last)
 
@@ -91,13 +93,14 @@ sends repeat k command store s ks = record {
 }
 
 module _ (n : ℕ) (repeat : Bool) (k : ℕ) (command store : List ℕ) (s : Session) (ks : List ℕ) (next : Session) (body : List ℕ) where
-  answers : exchanged replyRoom s command [] ≡ record { next = next; text = prompted body; handed = [] } → Plainly body → 4096 ≤ length store →
+  answers : exchanged replyRoom s command [] ≡ record { next = next; text = prompted body; handed = [] } → Plainly body → 4096 ≤ length store → ltb 0 (length command) ≡ true →
       onward (suc n) (sends repeat k command store s ks) [] ≡
       onward n (settled (Setup k) (sends repeat k command store s ks .bench) command [] (record { next = next; text = prompted body; handed = [] }) body) []
-  answers e ok size =
-      ap (λ (t : Round). onward n t [])
+  answers e ok size some =
+      rw some
+      (ap (λ (t : Round). onward n t [])
       (settles (Setup k) (sends repeat k command store s ks .bench) command [] _ body e refl
-      (record { turn = refl; reply = refl; out = omega arith; size = size; got = refl; front = refl }) ok)
+      (record { turn = refl; reply = refl; out = omega arith; size = size; got = refl; front = refl }) ok))
 
 ok-plainly : Plainly (ascii "OK\r\r")
 unfolding has high
@@ -124,7 +127,6 @@ pub record Started (L : ℕ → ℕ) (t : Round) : Type 0 where
   pub answer : t .answer ≡ result over
   pub handed : t .handed ≡ []
   pub between : Between L (t .bench)
-  pub fresh : between .last ≡ []
 
 module _ (L : ℕ → ℕ) (repeat : Bool) (ks : List ℕ) where
   -- the last of the five has set framing as it was asked for
@@ -143,8 +145,7 @@ module _ (L : ℕ → ℕ) (repeat : Bool) (ks : List ℕ) where
   ends n store ks size = record {
     answer = refl;
     handed = refl;
-    between = record { turn = refl; framing = refl; agree = agree-fresh L; size = size; last = []; server = refl; linked = λ h. absurd (omega arith) };
-    fresh = refl;
+    between = record { turn = refl; framing = refl; agree = agree-fresh L; size = size; last = []; short = omega arith; server = refl; linked = λ h. absurd (omega arith) };
   }
 
   pub started : Started L (initialised repeat ks)
@@ -158,10 +159,10 @@ module _ (L : ℕ → ℕ) (repeat : Bool) (ks : List ℕ) where
       let z₂ : 4096 ≤ length s₂ = store-size s₁ (prompted ok) z₁ in
       let z₃ : 4096 ≤ length s₃ = store-size s₂ (prompted ok) z₂ in
       let z₄ : 4096 ≤ length s₄ = store-size s₃ (prompted ok) z₃ in
-      let e₁ = answers 4 repeat 0 (ascii "ATE0\r") freshStore (during true true true false) ks _ (ascii "ATE0\rOK\r\n\r\n") echo-off-heard echo-plainly fresh-size in
-      let e₂ = answers 3 repeat 1 (ascii "ATL0\r") s₁ (during false true true false) _ _ ok linefeeds-off-heard ok-plainly z₁ in
-      let e₃ = answers 2 repeat 2 (ascii "ATS0\r") s₂ (during false false true false) _ _ ok spaces-off-heard ok-plainly z₂ in
-      let e₄ = answers 1 repeat 3 (ascii "ATSP0\r") s₃ (during false false false false) _ _ ok protocol-heard ok-plainly z₃ in
-      let e₅ = answers 0 repeat 4 (ascii "ATH1\r") s₄ (during false false false false) _ _ ok headers-on-heard ok-plainly z₄ in
+      let e₁ = answers 4 repeat 0 (ascii "ATE0\r") freshStore (during true true true false) ks _ (ascii "ATE0\rOK\r\n\r\n") echo-off-heard echo-plainly fresh-size refl in
+      let e₂ = answers 3 repeat 1 (ascii "ATL0\r") s₁ (during false true true false) _ _ ok linefeeds-off-heard ok-plainly z₁ refl in
+      let e₃ = answers 2 repeat 2 (ascii "ATS0\r") s₂ (during false false true false) _ _ ok spaces-off-heard ok-plainly z₂ refl in
+      let e₄ = answers 1 repeat 3 (ascii "ATSP0\r") s₃ (during false false false false) _ _ ok protocol-heard ok-plainly z₃ refl in
+      let e₅ = answers 0 repeat 4 (ascii "ATH1\r") s₄ (during false false false false) _ _ ok headers-on-heard ok-plainly z₄ refl in
       let e : initialised repeat ks ≡ _ = begins repeat ks ∙ e₁ ∙ e₂ ∙ e₃ ∙ e₄ ∙ e₅ in
       subst (Started L) (sym e) (ends 5 (sets s₄ 0 (prompted ok)) _ (store-size s₄ (prompted ok) z₄))

@@ -1,24 +1,27 @@
--- The premises of demand 3 can be met: three runs of one list of two queries, of which the second asks for a PID outside the table. The first two vehicles gave
--- the same, in other words of the script, other pieces and with repeat off; the third gave another engine speed.
-use mathlib.Core.Path.{_≡_, refl, ap}
+-- The premises of demand 3 can be met: runs of one list of four queries, of which the second repeats the first, the third is answered by two PIDs on one line and the
+-- fourth asks for a PID outside the table.
+use mathlib.Core.Path.{_≡_, refl, sym, ap}
 use mathlib.Core.Bool.{true, false}
 use mathlib.Core.List.{List, [], _∷_, _++_}
 use Prim.Native.Nat.{ℕ, zero, suc, _<_}
 use native.Mathlib.Omega.{arith}
-use lib.Dec.{leb}
-use lib.ListN.{length, getD, replicate}
-use borrow.Author.Tests.{leb-false}
+use lib.Dec.{eqb, leb}
+use lib.ListN.{length, take, getD, replicate}
+use borrow.Author.Tests.{leb-false, eqb-true}
 use Rattle.wire.specs.Answer.{result, unless}
 use Rattle.wire.specs.Text.{ascii, any, has, high, isSpace, raised}
-use Rattle.wire.proofs.Cases.{or-none}
+use Rattle.wire.proofs.Cases.{by-test, or-none}
+use Rattle.wire.proofs.All.{all-from}
+use Rattle.wire.specs.declared.Refusal.the-variants as refusal
 use Rattle.hex.specs.Digits.{hexDigit}
 use Rattle.hex.specs.Read.{digit, leading}
 use Rattle.pid.specs.J1979.{j1979}
 use Rattle.pid.specs.Lengths.{mode01Lengths}
 use Rattle.group.specs.Group.{groupBytes}
-use Rattle.line_list.specs.Lines.{line, lineList}
-use Rattle.value.specs.Values.{Value, valueFormat, readRecord}
-use Rattle.value.specs.Same.{SameRecord}
+use Rattle.group.specs.Format.{writeRow}
+use Rattle.line_list.specs.Lines.{Line, line, lineList}
+use Rattle.value.specs.Values.{Value, value, valueFormat, readRecord}
+use Rattle.value.specs.Same.{SameValues, SameRecord}
 use Rattle.at_command.specs.Dialect.{atKind}
 use Rattle.reply.specs.Reply.{lineText, replyText}
 use Rattle.server_session.specs.Bytes.{canonical, byteTaken, byteSays, bytesSay}
@@ -34,109 +37,210 @@ use Rattle.client_session.specs.Finish.{finishSays}
 use Rattle.bench.specs.Script.{Query, query, queryFormat, script}
 use Rattle.bench.specs.Exchange.{exchanged}
 use Rattle.bench.specs.Deliver.{pieces}
-use Rattle.bench.specs.declared.RunAnswer.the-variants.{Complete}
-use Rattle.bench.specs.Run.{initialised, part, runSays, recorded, runLent}
-use Rattle.agreement.specs.Lines.{end, next, alone, table}
-use Rattle.agreement.specs.Demand.{GoodQueries, Drive, hireRecord, partsStanding, comesTo}
+use Rattle.bench.specs.declared.RunAnswer.the-variants.{Complete, Refused}
+use Rattle.bench.specs.Run.{initialised, part, Run, runSays, runLent}
+use Rattle.agreement.specs.Lines.{end, next, alone, table, GoodLine}
+use Rattle.agreement.specs.Demand.{GoodQuery, GoodQueries, givens, SameFirst, Drive, drive, comesTo, Ran, hireRecord, GoodFirst, GoodAll, EveryFits}
+use Rattle.agreement.specs.Ends.{reach}
+use Rattle.agreement.proofs.Ran.{run-given}
 use Rattle.agreement.proofs.Agreement.{agreement}
 
--- engine speed from an unknown ECU, or from 7E8, with the low byte of its value; and the maker's own PID E0
-abbrev queries : ℕ → ℕ → List Query
-queries ecu low =
-    query (0x0C ∷ []) 2 (line ecu (0x41 ∷ 0x0C ∷ 0x1A ∷ low ∷ []) ∷ []) ∷
-    query (0xE0 ∷ []) 0 (line 0 (0x41 ∷ 0xE0 ∷ 1 ∷ 2 ∷ 3 ∷ []) ∷ []) ∷ []
+-- the bytes of a script, all below 256 by one computed test
+abbrev pub scriptOf : List Query → List ℕ
+scriptOf qs = writeRow queryFormat qs
 
-good : (ecu low : ℕ) → GoodQueries (λ p. 3) (queries ecu low)
-unfolding j1979
-good ecu low = (
-  (omega arith, ((_, refl, table _ _ (next 0x0C (0x1A ∷ low ∷ []) [] _ refl refl end)), tt)),
-  ((omega arith, ((_, refl, alone 0xE0 (1 ∷ 2 ∷ 3 ∷ []) refl refl), tt)), tt),
-)
-
--- the record of a run that gave engine speed with that low byte
-abbrev parts : ℕ → List ℕ
-parts low =
-    0x01 ∷ 0x0C ∷ 0xE9 ∷ 0x0F ∷ 0x04 ∷ 0x41 ∷ 0x0C ∷ 0x1A ∷ low ∷
-    0x01 ∷ 0xE0 ∷ 0xE9 ∷ 0x0F ∷ 0x05 ∷ 0x41 ∷ 0xE0 ∷ 1 ∷ 2 ∷ 3 ∷ []
-
-abbrev unknown : List ℕ
-unknown = 0x01 ∷ 0x0C ∷ 0x02 ∷ 0x01 ∷ 0x00 ∷ 0x04 ∷ 0x41 ∷ 0x0C ∷ 0x1A ∷ 0xF8 ∷ 0x01 ∷ 0xE0 ∷ 0x00 ∷ 0x01 ∷ 0x00 ∷ 0x05 ∷ 0x41 ∷ 0xE0 ∷ 1 ∷ 2 ∷ 3 ∷ []
-
-abbrev known : ℕ → List ℕ
-known low = 0x01 ∷ 0x0C ∷ 0x02 ∷ 0x01 ∷ 0xE9 ∷ 0x0F ∷ 0x04 ∷ 0x41 ∷ 0x0C ∷ 0x1A ∷ low ∷ 0x01 ∷ 0xE0 ∷ 0x00 ∷ 0x01 ∷ 0x00 ∷ 0x05 ∷ 0x41 ∷ 0xE0 ∷ 1 ∷ 2 ∷ 3 ∷ []
-
--- a script's members are bytes, by one computed test
-low-at : (s : List ℕ) → any (leb 256) s ≡ false → (i : ℕ) → i < length s → getD s i 0 < 256
+pub low-at : (s : List ℕ) → any (leb 256) s ≡ false → (i : ℕ) → i < length s → getD s i 0 < 256
 low-at [] e i h = absurd (omega arith)
 low-at (b ∷ s) e zero h = leb-false 256 b (or-none (leb 256 b) (any (leb 256) s) e .0)
 low-at (b ∷ s) e (suc i) h = low-at s (or-none (leb 256 b) (any (leb 256) s) e .1) i (omega arith)
 
-abbrev room : List ℕ
-room = replicate 20 0
+-- What is computed of a run: its queries, the commands handed out, and that the contract of `bench::run` holds of it.
+pub record Computed (d : Drive) (qs : List Query) (texts : List (List ℕ)) : Type 0 where
+  pub ran : Ran d
+  pub reads : script (d .scriptBytes) ≡ result qs
+  pub handed : comesTo d .handed ≡ texts
+
+-- engine speed with the low byte of its value; engine speed and vehicle speed on one line; the maker's own PID E0
+abbrev pub engine : ℕ → ℕ → Query
+engine ecu low = query (0x0C ∷ []) 2 (line ecu (0x41 ∷ 0x0C ∷ 0x1A ∷ low ∷ []) ∷ [])
+
+abbrev pub speeds : ℕ → List ℕ → Query
+speeds ecu values = query (0x0C ∷ 0x0D ∷ []) 0 (line ecu (0x41 ∷ values) ∷ [])
+
+abbrev pub own : Query
+own = query (0xE0 ∷ []) 0 (line 0 (0x41 ∷ 0xE0 ∷ 1 ∷ 2 ∷ 3 ∷ []) ∷ [])
+
+abbrev pub unknown : List Query
+unknown = engine 0 0xF8 ∷ engine 0 0xF8 ∷ speeds 0 (0x0C ∷ 0x1A ∷ 0xF8 ∷ 0x0D ∷ 0x20 ∷ []) ∷ own ∷ []
+
+-- their parts
+abbrev pub engineValue : ℕ → List ℕ
+engineValue low = 0x0C ∷ 0xE9 ∷ 0x0F ∷ 0x04 ∷ 0x41 ∷ 0x0C ∷ 0x1A ∷ low ∷ []
+
+abbrev pub speedValue : List ℕ
+speedValue = 0x0D ∷ 0xE9 ∷ 0x0F ∷ 0x03 ∷ 0x41 ∷ 0x0D ∷ 0x20 ∷ []
+
+abbrev pub ownValue : List ℕ
+ownValue = 0xE0 ∷ 0xE9 ∷ 0x0F ∷ 0x05 ∷ 0x41 ∷ 0xE0 ∷ 1 ∷ 2 ∷ 3 ∷ []
+
+abbrev unknownRecord : List ℕ
+unknownRecord = (1 ∷ engineValue 0xF8) ++ (1 ∷ engineValue 0xF8) ++ (2 ∷ engineValue 0xF8) ++ speedValue ++ (1 ∷ ownValue)
 
 -- the first vehicle, with repeat on and pieces of 128 bytes
-first : Drive
+abbrev pub first : Drive
+first = drive true [] (scriptOf unknown) (replicate 45 0) (unknownRecord ++ (0 ∷ [])) (record { answer = Complete; written = 44 })
+
+pub first-run : Computed first unknown (ascii "010C1" ∷ ascii "010C1" ∷ ascii "010C0D" ∷ ascii "01E0" ∷ [])
 unfolding has high isSpace raised hexDigit digit leading j1979 mode01Lengths groupBytes lineList valueFormat atKind lineText replyText canonical
     unless byteTaken byteSays bytesSay answerSays replySays queryText textLines textLine replyLines walked answerOrder learnLength initSays querySays
     replyTakes pieceSays finishSays script queryFormat exchanged pieces initialised part runSays
-first = record {
-  repeat = true;
-  pieces = [];
-  scriptBytes = unknown;
-  bytes = low-at unknown refl;
-  queries = queries 0 0xF8;
-  reads = refl;
-  lengths = λ p. 3;
-  lines = good 0 0xF8;
-  lentBuffer = room;
-  buffer = parts 0xF8 ++ (0 ∷ []);
-  run = record { answer = Complete; written = 19 };
-  ran = refl;
-}
+first-run = record { ran = record { bytes = low-at (scriptOf unknown) refl; ran = refl }; reads = refl; handed = refl }
 
--- the others, with repeat off and other pieces
-others : (low : ℕ) → any (leb 256) (known low) ≡ false → script (known low) ≡ result (queries 0x7E9 low) →
-    recorded (record { answer = Complete; written = 19 }) (parts low ++ (0 ∷ [])) ≡ runLent (runSays false (1 ∷ 2 ∷ 0 ∷ 200 ∷ 3 ∷ []) 20 (known low)) room → Drive
-others low bytes reads ran = record {
-  repeat = false;
-  pieces = 1 ∷ 2 ∷ 0 ∷ 200 ∷ 3 ∷ [];
-  scriptBytes = known low;
-  bytes = low-at (known low) bytes;
-  queries = queries 0x7E9 low;
-  reads = reads;
-  lengths = λ p. 3;
-  lines = good 0x7E9 low;
-  lentBuffer = room;
-  buffer = parts low ++ (0 ∷ []);
-  run = record { answer = Complete; written = 19 };
-  ran = ran;
-}
+-- others, from a known ECU, with the two PIDs in the other order, repeat off and other pieces
+abbrev known : ℕ → List Query
+known low = engine 0x7E9 low ∷ engine 0x7E9 0xF8 ∷ speeds 0x7E9 (0x0D ∷ 0x20 ∷ 0x0C ∷ 0x1A ∷ 0xF8 ∷ []) ∷ own ∷ []
 
-second : Drive
+abbrev other : ℕ → Drive
+other low =
+    drive false (1 ∷ 2 ∷ 0 ∷ 200 ∷ 3 ∷ []) (scriptOf (known low)) (replicate 44 0)
+    ((1 ∷ engineValue low) ++ (1 ∷ engineValue 0xF8) ++ (2 ∷ speedValue) ++ engineValue 0xF8 ++ (1 ∷ ownValue)) (record { answer = Complete; written = 44 })
+
+second-run : Computed (other 0xF8) (known 0xF8) (ascii "010C1" ∷ ascii "010C1" ∷ ascii "010C0D" ∷ ascii "01E0" ∷ [])
 unfolding has high isSpace raised hexDigit digit leading j1979 mode01Lengths groupBytes lineList valueFormat atKind lineText replyText canonical
     unless byteTaken byteSays bytesSay answerSays replySays queryText textLines textLine replyLines walked answerOrder learnLength initSays querySays
     replyTakes pieceSays finishSays script queryFormat exchanged pieces initialised part runSays
-second = others 0xF8 refl refl refl
+second-run = record { ran = record { bytes = low-at (scriptOf (known 0xF8)) refl; ran = refl }; reads = refl; handed = refl }
 
-third : Drive
+third-run : Computed (other 0xF9) (known 0xF9) (ascii "010C1" ∷ ascii "010C1" ∷ ascii "010C0D" ∷ ascii "01E0" ∷ [])
 unfolding has high isSpace raised hexDigit digit leading j1979 mode01Lengths groupBytes lineList valueFormat atKind lineText replyText canonical
     unless byteTaken byteSays bytesSay answerSays replySays queryText textLines textLine replyLines walked answerOrder learnLength initSays querySays
     replyTakes pieceSays finishSays script queryFormat exchanged pieces initialised part runSays
-third = others 0xF9 refl refl refl
+third-run = record { ran = record { bytes = low-at (scriptOf (known 0xF9)) refl; ran = refl }; reads = refl; handed = refl }
 
--- two parts stand in the first one's record, and its vehicle was handed the two queries' texts
-first-run : (partsStanding first ≡ 2) × (comesTo first .handed ≡ ascii "010C1" ∷ ascii "01E0" ∷ [])
-unfolding first readRecord has high isSpace raised hexDigit digit leading j1979 mode01Lengths groupBytes lineList valueFormat atKind lineText
-    replyText canonical unless byteTaken byteSays bytesSay answerSays replySays queryText textLines textLine replyLines walked answerOrder learnLength
-    initSays querySays replyTakes pieceSays finishSays script queryFormat exchanged pieces initialised part runSays
-first-run = (refl, refl)
+-- the first one's script in a record buffer of 20 bytes: 6 ends the run at the third part
+abbrev pub ended6 : Drive
+ended6 = drive true [] (scriptOf unknown) (replicate 20 0) ((1 ∷ engineValue 0xF8) ++ (1 ∷ engineValue 0xF8) ++ (0 ∷ 0 ∷ [])) (record { answer = Refused refusal.SmallBuffer; written = 18 })
+
+pub ended6-run : Computed ended6 unknown (ascii "010C1" ∷ ascii "010C1" ∷ ascii "010C0D" ∷ [])
+unfolding has high isSpace raised hexDigit digit leading j1979 mode01Lengths groupBytes lineList valueFormat atKind lineText replyText canonical
+    unless byteTaken byteSays bytesSay answerSays replySays queryText textLines textLine replyLines walked answerOrder learnLength initSays querySays
+    replyTakes pieceSays finishSays script queryFormat exchanged pieces initialised part runSays
+ended6-run = record { ran = record { bytes = low-at (scriptOf unknown) refl; ran = refl }; reads = refl; handed = refl }
+
+-- the same with a last query, never asked, that has no line
+abbrev unasked : List Query
+unasked = engine 0 0xF8 ∷ engine 0 0xF8 ∷ speeds 0 (0x0C ∷ 0x1A ∷ 0xF8 ∷ 0x0D ∷ 0x20 ∷ []) ∷ query (0x0C ∷ []) 0 [] ∷ []
+
+abbrev lastUnasked : Drive
+lastUnasked = drive true [] (scriptOf unasked) (replicate 20 0) ((1 ∷ engineValue 0xF8) ++ (1 ∷ engineValue 0xF8) ++ (0 ∷ 0 ∷ [])) (record { answer = Refused refusal.SmallBuffer; written = 18 })
+
+unasked-run : Computed lastUnasked unasked (ascii "010C1" ∷ ascii "010C1" ∷ ascii "010C0D" ∷ [])
+unfolding has high isSpace raised hexDigit digit leading j1979 mode01Lengths groupBytes lineList valueFormat atKind lineText replyText canonical
+    unless byteTaken byteSays bytesSay answerSays replySays queryText textLines textLine replyLines walked answerOrder learnLength initSays querySays
+    replyTakes pieceSays finishSays script queryFormat exchanged pieces initialised part runSays
+unasked-run = record { ran = record { bytes = low-at (scriptOf unasked) refl; ran = refl }; reads = refl; handed = refl }
+
+-- a second query with eight lines of 255 bytes: its reply has 8 * (5 + 2 * 255 + 1) + 2 bytes, and 8 ends the run
+abbrev longLine : Line
+longLine = line 0 (0x41 ∷ 0xE1 ∷ replicate 253 7)
+
+abbrev long : List Query
+long = let l = longLine in engine 0 0xF8 ∷ query (0xE1 ∷ []) 0 (l ∷ l ∷ l ∷ l ∷ l ∷ l ∷ l ∷ l ∷ []) ∷ engine 0 0xF8 ∷ []
+
+abbrev pub ended8 : Drive
+ended8 = drive true [] (scriptOf long) (replicate 10 0) ((1 ∷ engineValue 0xF8) ++ (0 ∷ [])) (record { answer = Refused refusal.ReplyTooLong; written = 9 })
+
+-- ---- the premises
+
+module _ (L : ℕ → ℕ) where
+  pub good-engine : (ecu low : ℕ) → GoodQuery L (engine ecu low)
+  unfolding j1979
+  good-engine ecu low = (omega arith, ((_, refl, table _ _ (next 0x0C (0x1A ∷ low ∷ []) [] _ refl refl end)), tt))
+
+  good-long : L 0xE1 ≡ 253 → GoodLine L longLine
+  unfolding j1979
+  good-long e = (_, refl, alone 0xE1 (replicate 253 7) refl (sym e))
+
+pub good-own : GoodQuery (λ p. 3) own
+unfolding j1979
+good-own = (omega arith, ((_, refl, alone 0xE0 (1 ∷ 2 ∷ 3 ∷ []) refl refl), tt))
+
+pub good-unknown : GoodQueries (λ p. 3) unknown
+unfolding j1979
+good-unknown = (
+  good-engine (λ p. 3) 0 0xF8,
+  (
+    good-engine (λ p. 3) 0 0xF8,
+    (
+      (omega arith, ((_, refl, table _ _ (next 0x0C (0x1A ∷ 0xF8 ∷ []) _ _ refl refl (next 0x0D (0x20 ∷ []) [] _ refl refl end))), tt)),
+      (good-own, tt),
+    ),
+  ),
+)
+
+good-known : (low : ℕ) → GoodQueries (λ p. 3) (known low)
+unfolding j1979
+good-known low = (
+  good-engine (λ p. 3) 0x7E9 low,
+  (
+    good-engine (λ p. 3) 0x7E9 0xF8,
+    (
+      (omega arith, ((_, refl, table _ _ (next 0x0D (0x20 ∷ []) _ _ refl refl (next 0x0C (0x1A ∷ 0xF8 ∷ []) [] _ refl refl end))), tt)),
+      (good-own, tt),
+    ),
+  ),
+)
+
+pub good-8 : GoodQueries (λ p. 253) long
+good-8 =
+    let l = good-long (λ p. 253) refl in
+    (good-engine (λ p. 253) 0 0xF8, ((omega arith, (l, (l, (l, (l, (l, (l, (l, (l, tt))))))))), (good-engine (λ p. 253) 0 0xF8, tt)))
+
+-- the run that 8 ends, by the laws: to compute it step by step takes too long
+long-reads : script (scriptOf long) ≡ result long
+unfolding script unless queryFormat groupBytes
+long-reads = refl
+
+pub ended8-run : Computed ended8 long (ascii "010C1" ∷ ascii "01E1" ∷ [])
+unfolding lineText replyText hexDigit queryText valueFormat groupBytes j1979 queryFormat answerOrder
+ended8-run =
+    let bytes = low-at (scriptOf long) refl in
+    let e = run-given true [] (scriptOf long) (all-from (λ b. b < 256) (scriptOf long) bytes) (λ p. 253) 10 long long-reads good-8 in
+    record { ran = record { bytes = bytes; ran = ap (λ (r : Run). runLent r (replicate 10 0)) (sym e) }; reads = long-reads; handed = ap (λ (r : Run). r .handed) e }
+
+-- ---- two runs
+
+module _ {d : Drive} {qs : List Query} {texts : List (List ℕ)} (c : Computed d qs texts) where
+  pub good-first : (L : ℕ → ℕ) (n : ℕ) → GoodQueries L (take n qs) → GoodFirst n d
+  good-first L n good = (L, rw (c .reads) good)
+
+  pub good-all : (L : ℕ → ℕ) → GoodQueries L (take (length qs) qs) → GoodAll d
+  good-all L good = (L, rw (c .reads) good)
+
+  pub fits : reach (length (d .lentBuffer)) qs (givens qs) .answer ≡ result tt → EveryFits d
+  fits e = rw (c .reads) e
+
+-- two values in either order
+abbrev engineGiven : Value
+engineGiven = value 0x0C 0x7E9 (0x1A ∷ 0xF8 ∷ [])
+
+abbrev speedGiven : Value
+speedGiven = value 0x0D 0x7E9 (0x20 ∷ [])
+
+swapped : SameValues (engineGiven ∷ speedGiven ∷ []) (speedGiven ∷ engineGiven ∷ [])
+swapped p = by-test (eqb 0x0C p) (λ t. rw (← eqb-true 0x0C p t) refl) (λ t. rw t refl)
+
+pub first-fits : EveryFits first
+unfolding lineText replyText hexDigit valueFormat groupBytes j1979
+first-fits = fits first-run refl
 
 -- the records of the first two are equal, since the vehicles gave the same
-same-records : SameRecord (hireRecord first) (hireRecord second)
-unfolding first second others has high isSpace raised hexDigit digit leading j1979 mode01Lengths groupBytes lineList valueFormat atKind lineText
-    replyText canonical unless byteTaken byteSays bytesSay answerSays replySays queryText textLines textLine replyLines walked answerOrder learnLength
-    initSays querySays replyTakes pieceSays finishSays script queryFormat exchanged pieces initialised part runSays
-same-records = agreement first second .equal refl refl .1 ((λ p. refl), ((λ p. refl), tt))
+same-records : SameRecord (hireRecord first) (hireRecord (other 0xF8))
+unfolding lineText replyText hexDigit valueFormat groupBytes j1979
+same-records =
+    let same = agreement first (other 0xF8) (first-run .ran) (second-run .ran) .equal (good-all first-run (λ p. 3) good-unknown)
+    (good-all second-run (λ p. 3) (good-known 0xF8)) first-fits (fits second-run refl) in
+    same .1 (rw (first-run .reads, second-run .reads) ((λ p. refl), ((λ p. refl), (swapped, ((λ p. refl), tt)))))
 
 -- the low byte of the first value
 abbrev lowOf : List Value → ℕ
@@ -144,10 +248,27 @@ lowOf [] = 0
 lowOf (v ∷ vs) = getD (v .bytes) 1 0
 
 -- and that of the third differs, since its vehicle gave another value
-other-record : SameRecord (hireRecord first) (hireRecord third) → ⊥
-unfolding first third others has high isSpace raised hexDigit digit leading j1979 mode01Lengths groupBytes lineList valueFormat atKind lineText
-    replyText canonical unless byteTaken byteSays bytesSay answerSays replySays queryText textLines textLine replyLines walked answerOrder learnLength
-    initSays querySays replyTakes pieceSays finishSays script queryFormat exchanged pieces initialised part runSays
+other-record : SameRecord (hireRecord first) (hireRecord (other 0xF9)) → ⊥
+unfolding lineText replyText hexDigit valueFormat groupBytes j1979
 other-record h =
-    let e : _≡_ {A = ℕ} 0xF8 0xF9 = ap lowOf (agreement first third .equal refl refl .0 h .0 0x0C) in
+    let same = agreement first (other 0xF9) (first-run .ran) (third-run .ran) .equal (good-all first-run (λ p. 3) good-unknown)
+    (good-all third-run (λ p. 3) (good-known 0xF9)) first-fits (fits third-run refl) in
+    let e : _≡_ {A = ℕ} 0xF8 0xF9 = ap lowOf ((rw (first-run .reads, third-run .reads) at (same .0 h)) .0 0x0C) in
     absurd (omega arith)
+
+-- two parts stand where 6 ended the run, and one where 8 did; the claim holds of them, whatever the queries that never ran
+two-stand : SameFirst 2 (hireRecord first) (hireRecord lastUnasked)
+unfolding readRecord valueFormat
+two-stand =
+    let holds = agreement first lastUnasked (first-run .ran) (unasked-run .ran) .before 2 (omega arith) (omega arith)
+    (good-first first-run (λ p. 3) 2 (good-engine (λ p. 3) 0 0xF8, (good-engine (λ p. 3) 0 0xF8, tt)))
+    (good-first unasked-run (λ p. 3) 2 (good-engine (λ p. 3) 0 0xF8, (good-engine (λ p. 3) 0 0xF8, tt))) in
+    holds .equal .1 (rw (first-run .reads, unasked-run .reads) ((λ p. refl), ((λ p. refl), tt)))
+
+one-stands : SameFirst 1 (hireRecord first) (hireRecord ended8)
+unfolding readRecord valueFormat
+one-stands =
+    let holds = agreement first ended8 (first-run .ran) (ended8-run .ran) .before 1 (omega arith) (omega arith)
+    (good-first first-run (λ p. 3) 1 (good-engine (λ p. 3) 0 0xF8, tt))
+    (good-first ended8-run (λ p. 3) 1 (good-engine (λ p. 3) 0 0xF8, tt)) in
+    holds .equal .1 (rw (first-run .reads, ended8-run .reads) ((λ p. refl), tt))

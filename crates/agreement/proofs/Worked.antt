@@ -2,6 +2,7 @@
 use mathlib.Core.Path.{_≡_, refl}
 use mathlib.Core.List.{List, [], _∷_}
 use lib.ListN.{length}
+use Rattle.wire.specs.Answer.{result, refused}
 use Rattle.wire.specs.Text.{ascii}
 use Rattle.hex.specs.Digits.{hexDigit}
 use Rattle.group.specs.Group.{groupBytes, listOf}
@@ -12,7 +13,8 @@ use Rattle.query.specs.Query.{queryText}
 use Rattle.reply.specs.Reply.{lineText, replyText}
 use Rattle.bench.specs.Script.{Query, query}
 use Rattle.agreement.specs.Vehicle.{given}
-use Rattle.agreement.specs.Demand.{commands, fitting, SameFirst}
+use Rattle.agreement.specs.Ends.{reach}
+use Rattle.agreement.specs.Demand.{givens, commands, SameFirst}
 
 two-pids : valuesBytes (given (line 0 (0x41 ∷ 0x0C ∷ 0x1A ∷ 0xF8 ∷ 0x0D ∷ 0x20 ∷ []) ∷ [])) ≡
     0x0C ∷ 0xE9 ∷ 0x0F ∷ 0x04 ∷ 0x41 ∷ 0x0C ∷ 0x1A ∷ 0xF8 ∷ 0x0D ∷ 0xE9 ∷ 0x0F ∷ 0x03 ∷ 0x41 ∷ 0x0D ∷ 0x20 ∷ []
@@ -31,11 +33,11 @@ own-texts : commands twice ≡ ascii "010C1" ∷ ascii "010C1" ∷ []
 unfolding queryText hexDigit
 own-texts = refl
 
-two-fit : fitting 18 twice ≡ 2
+two-fit : reach 18 twice (givens twice) ≡ record { fit = 2; answer = result tt }
 unfolding replyText lineText hexDigit valueFormat groupBytes j1979
 two-fit = refl
 
-one-fits : fitting 17 twice ≡ 1
+one-fits : reach 17 twice (givens twice) ≡ record { fit = 1; answer = refused 6 }
 unfolding replyText lineText hexDigit valueFormat groupBytes j1979
 one-fits = refl
 

@@ -1,4 +1,4 @@
 pub mod Vehicle
 pub mod Lines
-pub mod Demand
 pub mod Ends
+pub mod Demand

@@ -1,7 +1,7 @@
 -- Document 01, "The bench run": "What a vehicle gave is read from the script alone, with a list per query and PID, empty at first. Lines go in order. Past 41
 -- comes a PID, then its data: the table's length, or the rest of the line for a PID outside the table; then the next PID, until the line ends. Each appends its
 -- value, ECU+1 as the line has it, 7E8+1 when unknown, to its PID's list. Two vehicles gave the same when all these lists agree."
--- It shares nothing with the client's walk over a reply but the table of J1979 lengths.
+-- It shares nothing with the client's walk over a reply but the table of lengths.
 use mathlib.Core.Bool.{cond}
 use mathlib.Core.List.{List, [], _∷_, _++_}
 use mathlib.Core.Option.{Option, none, some}

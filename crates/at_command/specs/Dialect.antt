@@ -40,17 +40,13 @@ atKind c =
     (cond (isText c "ATI") (Identity Ati)
     (cond (isText c "AT@1") (Identity Device) Unknown))))))))))))))))
 
--- the settings with a switch turned on or off
-abbrev pub withSetting : Setting → Bool → Settings → Settings
-withSetting Echo on s = record { echo = on; linefeeds = s .linefeeds; spaces = s .spaces; headers = s .headers; last = s .last }
-withSetting Linefeeds on s = record { echo = s .echo; linefeeds = on; spaces = s .spaces; headers = s .headers; last = s .last }
-withSetting Spaces on s = record { echo = s .echo; linefeeds = s .linefeeds; spaces = on; headers = s .headers; last = s .last }
-withSetting Headers on s = record { echo = s .echo; linefeeds = s .linefeeds; spaces = s .spaces; headers = on; last = s .last }
-
--- the settings after it: ATZ makes all fresh, the last command with them
+-- the settings after it: ATZ makes all fresh, the last command with them; a switch is turned on or off
 abbrev pub kindSettings : AtKind → Settings → Settings
 kindSettings Reset s = fresh
-kindSettings (Set setting on) s = withSetting setting on s
+kindSettings (Set Echo on) s = record { echo = on; linefeeds = s .linefeeds; spaces = s .spaces; headers = s .headers; last = s .last }
+kindSettings (Set Linefeeds on) s = record { echo = s .echo; linefeeds = on; spaces = s .spaces; headers = s .headers; last = s .last }
+kindSettings (Set Spaces on) s = record { echo = s .echo; linefeeds = s .linefeeds; spaces = on; headers = s .headers; last = s .last }
+kindSettings (Set Headers on) s = record { echo = s .echo; linefeeds = s .linefeeds; spaces = s .spaces; headers = on; last = s .last }
 kindSettings Accepted s = s
 kindSettings (Identity which) s = s
 kindSettings Voltage s = s

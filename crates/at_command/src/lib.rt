@@ -4,7 +4,7 @@ ghost use lib.ListN.{drop};
 ghost use mathlib.Core.Bool.{true, false, cond};
 ghost use Rattle.wire.specs.Text.{same, begins};
 ghost use Rattle.client_state.specs.Settings.{settings};
-ghost use Rattle.at_command.specs.Dialect.{isText, startsWith, atKind, withSetting, kindSettings, identityOf};
+ghost use Rattle.at_command.specs.Dialect.{isText, startsWith, atKind, kindSettings, identityOf};
 use client_state::ClientState;
 
 // A switch among the settings.
@@ -141,7 +141,7 @@ pub fn at_kind(command: &[u8]) -> AtKind
 
 // The settings with a switch turned.
 fn with_setting(state: ClientState, setting: Setting, on: bool) -> ClientState
-    ensures { λ r. ⌜ settings r ≡ withSetting setting on (settings state) ⌝ }
+    ensures { λ r. ⌜ settings r ≡ kindSettings (AtKind.Set setting on) (settings state) ⌝ }
 {
     let mut next = state;
     match setting {

@@ -8,6 +8,8 @@ use lib.Dec.{eqb}
 use lib.ListN.{length, take, drop, getD, length-take}
 use borrow.Author.Tests.{ltb-false, le-ltb, eq-eqb, ne-eqb}
 use Rattle.wire.specs.declared.Refusal.{Refusal}
+use Rattle.wire.specs.declared.Count.{Count}
+use Rattle.wire.specs.declared.Count.the-variants.{Is, Refused}
 use Rattle.wire.specs.Answer.{Answer, result, refused, number, unless}
 use Rattle.wire.proofs.Cases.{from-no}
 use Rattle.wire.proofs.UnlessLaws.{unless-by}
@@ -15,25 +17,23 @@ use Rattle.value.specs.Values.{Value, valuesBytes}
 use Rattle.reply_lines.specs.Decode.{replyLines}
 use Rattle.reply_values.specs.Values.{valuesOf, answerOrder}
 use Rattle.reply_values.specs.Learn.{lengthsAfter}
-use Rattle.reply_values.specs.Read.{reading}
 use Rattle.reply_values.proofs.SizeLaws.{reply-size}
 use Rattle.server_session.specs.Session.{session}
-use Rattle.client_session.specs.declared.ClientAnswer.the-variants.{Sent}
 use Rattle.client_session.specs.declared.ClientStep.{ClientStep}
 use Rattle.client_session.specs.Session.{Client, client}
-use Rattle.client_session.specs.Call.{Progress, sent, ClientSaid, ClientServed, clientLent, clientAnswer, clientStep}
+use Rattle.client_session.specs.Call.{Progress, ClientSaid, ClientServed, clientLent, clientAnswer, clientStep}
 use Rattle.client_session.specs.Start.{querySays}
 use Rattle.client_session.specs.Piece.{replyIn}
-use Rattle.client_session.specs.Finish.{question, givesValues, finishSays}
+use Rattle.client_session.specs.Finish.{givesValues, finishSays}
 use Rattle.client_session.proofs.StartLaws.{query-fits}
+use Rattle.client_session.proofs.FinishLaws.{readFor}
 use Rattle.bench.specs.declared.Bench as code
 use Rattle.bench.specs.declared.Round as code-round
-use Rattle.bench.specs.declared.PartAnswer.{PartAnswer}
-use Rattle.bench.specs.declared.PartAnswer.the-variants as part
 use Rattle.bench.specs.declared.PartStep.{PartStep}
-use Rattle.bench.specs.Run.{Bench, Round, Part, onward, sendRoom, replyRoom, valuesRoom, startSays, asking, partOf, finished}
-use Rattle.bench.specs.Steps.{benchOf, roundOf, Begins, RoundDoes, Comes, closed, partText, PartDoes}
+use Rattle.bench.specs.Run.{Bench, Round, Part, round, onward, sendRoom, replyRoom, valuesRoom, startSays, withClient, asking, partOf, finished}
+use Rattle.bench.specs.Steps.{benchOf, roundOf, RoundDoes, Comes, closed, partText, PartDoes}
 use Rattle.bench.proofs.RoundLaws.{lent-length, lent-text, lent-inside}
+use Rattle.bench.proofs.OnwardLaws.{held-then, does-held, onward-held}
 
 -- ---- the start
 
@@ -74,7 +74,7 @@ unfolding answerOrder
 ordered-size vs = refl
 
 reply-room : (c : Client) (reply : List ℕ) → length reply ≤ 4096 →
-    givesValues replyRoom c (reading (question c) reply) ≡ givesValues valuesRoom c (reading (question c) reply)
+    givesValues replyRoom c (readFor c reply) ≡ givesValues valuesRoom c (readFor c reply)
 unfolding unless
 reply-room c reply short =
     let ls = replyLines (c .server .framing) reply in
@@ -90,16 +90,16 @@ finish-room c store =
     rw (reply-room c (replyIn c store) (omega (arith, length-take (c .got) (take 4096 store), length-take 4096 store)))
 
 -- what an answer comes to in the record, by whether it has a number
-pub part-none : (a : Answer Progress) (n : ℕ) → partText (part.Values n) [] ≡ partOf a [] → (p : Progress) × (a ≡ result p)
+pub part-none : (a : Answer Progress) (n : ℕ) → partText (Is n) [] ≡ partOf a [] → (p : Progress) × (a ≡ result p)
 part-none (result p) n e = (p, refl)
 part-none (refused m) n e = from-no (cc)
 
-pub part-ends : (a : Answer Progress) (q : Refusal) → partText (part.Refused q) [] ≡ partOf a [] → a ≡ refused (number q)
+pub part-ends : (a : Answer Progress) (q : Refusal) → partText (Refused q) [] ≡ partOf a [] → a ≡ refused (number q)
 part-ends (result p) q e = from-no (cc)
 part-ends (refused m) q e = cc
 
 -- the reply got a number
-pub reply-refused : (asked : code-round.Round) (q : Refusal) (a : PartAnswer) (values store lengths : List ℕ) → length values ≡ replyRoom → a ≡ part.Refused q →
+pub reply-refused : (asked : code-round.Round) (q : Refusal) (a : Count) (values store lengths : List ℕ) → length values ≡ replyRoom → a ≡ Refused q →
     clientAnswer (asked .answer) ≡ refused (number q) →
     PartDoes (finished (roundOf asked [] store lengths)) (record { answer = a; written = 0; bench = asked .bench }) values store lengths
 reply-refused asked q a values store lengths size k e = rw (e, k) (record { answer = refl; bench = refl; inside = omega arith; room = size })
@@ -123,7 +123,7 @@ module _ (b : code.Bench) (store values : List ℕ) (size : length values ≡ re
   few : length (says .text) ≤ length values
   few = omega (arith, size, finish-fits valuesRoom (client (b .client)) store)
 
-  pub close-does : (a : PartAnswer) → ((text : List ℕ) → partText a text ≡ partOf (clientAnswer (s .answer)) text) → (lengths : List ℕ) →
+  pub close-does : (a : Count) → ((text : List ℕ) → partText a text ≡ partOf (clientAnswer (s .answer)) text) → (lengths : List ℕ) →
       PartDoes (closed (benchOf b store lengths))
       (record { answer = a; written = s .written; bench = record { client = s .session; server = b .server; used = b .used } }) left store lengths
   close-does a told lengths =
@@ -151,37 +151,21 @@ module _ (s : ClientSaid) (begun : ClientStep) (out out₁ : List ℕ) (size : l
   pub start-inside : begun .written ≤ length out₁
   start-inside = lent-inside s out (clientStep begun out₁) e (omega arith)
 
-  -- it is the next to be sent
-  pub begin-does : (b : code.Bench) →
-      Begins s b (record { answer = Sent; written = begun .written; bench = record { client = begun .session; server = b .server; used = b .used } }) out₁
-  begin-does b = record {
-    answer = refl;
-    text = start-text;
-    next = ap (λ (v : ClientServed). v .next) e;
-    waits = refl;
-    used = refl;
-    inside = start-inside;
-    size = start-size;
-  }
+  -- the client after it
+  abbrev waiting : code.Bench → code.Bench
+  waiting b = record { client = begun .session; server = b .server; used = b .used }
 
--- the command of the query, and then at most one more
-pub ask-does : {s : ClientSaid} {b : code.Bench} {begun r : code-round.Round} {out : List ℕ} (list lengths store o p q : List ℕ) → Begins s b begun out →
-    RoundDoes (onward 2 (roundOf begun out store lengths) list) r o p q lengths → Comes (asking (benchOf b store lengths) s list) r p q lengths
-ask-does {s} {b} {begun} {r} {out} list lengths store o p q w d =
-    let first : Round = record {
-      answer = result sent;
-      text = s .text;
-      bench = record { client = s .next; store = store; server = session (b .server); lengths = drop (b .used) lengths };
-      handed = [];
-    } in
-    let same : roundOf begun out store lengths ≡ first = λ i. record {
-      answer = w .answer i;
-      text = w .text i;
-      bench = record { client = w .next i; store = store; server = session (w .waits i); lengths = drop (w .used i) lengths };
-      handed = [];
-    } in
-    let two : RoundDoes (onward 2 first list) r o p q lengths = subst (λ (t : Round). RoundDoes (onward 2 t list) r o p q lengths) same d in
-    record { answer = two .answer; bench = two .bench; room = two .room .1 }
+  -- the command of the query, and then at most one more
+  pub ask-does : (b : code.Bench) {first r : code-round.Round} (list lengths store o₁ p₁ q₁ o p q : List ℕ) →
+      RoundDoes (round (benchOf (waiting b) store lengths) (take (begun .written) out₁) list) first o₁ p₁ q₁ lengths →
+      RoundDoes (onward 1 (roundOf first o₁ q₁ lengths) list) r o p q lengths → Comes (asking (benchOf b store lengths) s list) r p q lengths
+  ask-does b {first} {r} list lengths store o₁ p₁ q₁ o p q d₁ d₂ =
+      let next : client (begun .session) ≡ s .next = ap (λ (v : ClientServed). v .next) e in
+      let same : round (benchOf (waiting b) store lengths) (take (begun .written) out₁) list ≡ round (withClient (benchOf b store lengths) (s .next)) (s .text) list =
+      λ i. round (record { client = next i; store = store; server = session (b .server); lengths = drop (b .used) lengths }) (start-text i) list in
+      let one = subst (λ (t : Round). RoundDoes t first o₁ p₁ q₁ lengths) same d₁ in
+      let h = held-then (onward-held 1 list (does-held one)) (does-held d₂) in
+      record { answer = sym (h .answer); bench = sym (h .bench); room = d₂ .room .1 }
 
 -- and finished; a finish goes by the answer and the bench alone
 abbrev finishing : Round → Answer Progress → Part

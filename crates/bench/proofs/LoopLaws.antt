@@ -30,7 +30,7 @@ use Rattle.group.proofs.WalkLaws.{Ahead, ahead-end, ahead-none, ahead-thing}
 use Rattle.bench.specs.declared.Bench as code
 use Rattle.bench.specs.declared.BenchRun.{BenchRun}
 use Rattle.bench.specs.declared.RunAnswer.the-variants.{Complete, Refused}
-use Rattle.bench.specs.declared.PartAnswer.the-variants as part-answer
+use Rattle.wire.specs.declared.Count.the-variants as counts
 use Rattle.bench.specs.declared.PartStep.{PartStep}
 use Rattle.bench.specs.Run.{Part, startSays, asking, finished, part, Run, after, asked, runAnswer, Recorded, recorded, runLent}
 use Rattle.bench.specs.Steps.{benchOf, partText, PartDoes, IsScript, orNone, queriesOf, standing, added, lentFrom}
@@ -44,12 +44,12 @@ recorded-same a w o = λ i. record { answer = a i; written = w i; out = o i }
 module _ (at : ℕ) (buffer : List ℕ) (r : BenchRun) where
   -- a number ends the run
   pub number-ends : (room : ℕ) (q : Refusal) (text : List ℕ) → r ≡ record { answer = Refused q; written = at } →
-      recorded r buffer ≡ lentFrom at (added room (partText (part-answer.Refused q) text)) buffer
+      recorded r buffer ≡ lentFrom at (added room (partText (counts.Refused q) text)) buffer
   number-ends room q text e = ap (λ (x : BenchRun). recorded x buffer) e ∙ recorded-same refl (omega arith) refl
 
   -- 6: there is no room for the part
   pub no-room : (room count : ℕ) (text : List ℕ) → room < length (groupBytes count) + length text → r ≡ record { answer = Refused SmallBuffer; written = at } →
-      recorded r buffer ≡ lentFrom at (added room (partText (part-answer.Values count) text)) buffer
+      recorded r buffer ≡ lentFrom at (added room (partText (counts.Is count) text)) buffer
   no-room room count text h e =
       let long = lt-ltb room (length (groupBytes count ++ text)) (omega (arith, length-append (groupBytes count) text)) in
       ap (λ (x : BenchRun). recorded x buffer) e ∙ rw long (recorded-same refl (omega arith) refl)
@@ -57,7 +57,7 @@ module _ (at : ℕ) (buffer : List ℕ) (r : BenchRun) where
 -- the part is written
 pub part-fits : (at : ℕ) (buffer left : List ℕ) (end count : ℕ) (text : List ℕ) → at ≤ length buffer →
     length (groupBytes count) + length text ≤ length buffer - at → Put buffer at (groupBytes count ++ text) end left →
-    recorded (record { answer = Complete; written = end }) left ≡ lentFrom at (added (length buffer - at) (partText (part-answer.Values count) text)) buffer
+    recorded (record { answer = Complete; written = end }) left ≡ lentFrom at (added (length buffer - at) (partText (counts.Is count) text)) buffer
 part-fits at buffer left end count text inside h p =
     let bytes = groupBytes count ++ text in
     let size = length-append (groupBytes count) text in

@@ -4,9 +4,11 @@ use mathlib.Core.Bool.{Bool, true, false, cond}
 use mathlib.Core.List.{List}
 use Prim.Native.Nat.{ℕ, zero, suc, _-_, _<_, _≤_}
 use native.Mathlib.Omega.{arith}
+use lib.Dec.{ltb}
 use lib.ListN.{length}
+use borrow.Author.Tests.{lt-ltb, le-ltb}
 use Rattle.bench.specs.declared.Round as code-round
-use Rattle.bench.specs.Run.{Round, round, later, isSent, onward}
+use Rattle.bench.specs.Run.{Round, round, later, onward}
 use Rattle.bench.specs.Steps.{roundOf, Room, RoundDoes}
 
 -- Two rounds with the same commands to come.
@@ -39,19 +41,19 @@ onward-held (suc n) {t} {u} list h =
     let o : onward n (round (t .bench) (t .text) list) list ≡ onward n (round (u .bench) (u .text) list) list = λ i. onward n (round (h .bench i) (h .text i) list) list in
     let more : Held (later (t .handed) (onward n (round (t .bench) (t .text) list) list)) (later (u .handed) (onward n (round (u .bench) (u .text) list) list)) =
     record { answer = ap (λ (v : Round). v .answer) o; text = ap (λ (v : Round). v .text) o; bench = ap (λ (v : Round). v .bench) o } in
-    subst (λ a. Held (cond (isSent a) (later (t .handed) (onward n (round (t .bench) (t .text) list) list)) t) (onward (suc n) u list)) (sym (h .answer))
-    (sending-held (isSent (u .answer)) h more)
+    subst (λ a. Held (cond (ltb 0 (length a)) (later (t .handed) (onward n (round (t .bench) (t .text) list) list)) t) (onward (suc n) u list)) (sym (h .text))
+    (sending-held (ltb 0 (length (u .text))) h more)
 
 -- nothing more is sent
-pub onward-stops : (n : ℕ) (t : Round) (list : List ℕ) → isSent (t .answer) ≡ false → Held (onward n t list) t
+pub onward-stops : (n : ℕ) (t : Round) (list : List ℕ) → length (t .text) ≤ 0 → Held (onward n t list) t
 onward-stops zero t list e = held-same t
-onward-stops (suc n) t list e = rw e (held-same t)
+onward-stops (suc n) t list e = rw (le-ltb 0 (length (t .text)) e) (held-same t)
 
 -- one more command
-one-goes : (n : ℕ) (t : Round) (list : List ℕ) → isSent (t .answer) ≡ true → Held (onward (suc n) t list) (onward n (round (t .bench) (t .text) list) list)
-one-goes n t list e = rw e (record { answer = refl; text = refl; bench = refl })
+one-goes : (n : ℕ) (t : Round) (list : List ℕ) → 0 < length (t .text) → Held (onward (suc n) t list) (onward n (round (t .bench) (t .text) list) list)
+one-goes n t list e = rw (lt-ltb 0 (length (t .text)) e) (record { answer = refl; text = refl; bench = refl })
 
-pub onward-goes : (n : ℕ) (t : Round) (list : List ℕ) → 0 < n → isSent (t .answer) ≡ true → Held (onward n t list) (onward (n - 1) (round (t .bench) (t .text) list) list)
+pub onward-goes : (n : ℕ) (t : Round) (list : List ℕ) → 0 < n → 0 < length (t .text) → Held (onward n t list) (onward (n - 1) (round (t .bench) (t .text) list) list)
 onward-goes zero t list h e = absurd (omega arith)
 onward-goes (suc n) t list h e =
     let less : n ≡ suc n - 1 = omega arith in

@@ -5,13 +5,13 @@ use mathlib.Core.List.{List, []}
 use Prim.Native.Nat.{ℕ}
 use lib.ListN.{length}
 use Rattle.wire.specs.declared.Refusal.{Refusal}
-use Rattle.wire.specs.Answer.{Answer, result, refused, number}
+use Rattle.wire.specs.Answer.{Answer, result, refused, number, ifResult}
 use Rattle.client_session.specs.Call.{Progress, clientAnswer}
 use Rattle.bench.specs.Script.{Query, script}
 use Rattle.bench.specs.declared.RunAnswer.the-variants.{Refused}
 use Rattle.bench.specs.declared.BenchRun.{BenchRun}
 use Rattle.bench.specs.declared.Round as code-round
-use Rattle.bench.specs.Run.{Round, Run, ifResult, ended, after, asked, initialised, runSays, recorded, runLent}
+use Rattle.bench.specs.Run.{Round, Run, ended, after, asked, initialised, runSays, recorded, runLent}
 use Rattle.bench.specs.Steps.{benchOf, Comes, IsScript, queriesOf}
 
 -- by what the initialisation came to

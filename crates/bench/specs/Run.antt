@@ -3,19 +3,19 @@
 -- lines of the query under way." "The hire record has, per query, the number of values as a group number and the values. 3 and 5 come before anything runs; 8, or 6
 -- when a query's part overruns the record buffer, ends the run there, and the answer holds the number and the length of the earlier parts, which stand written."
 -- (Hire record is document 01's term.)
-use mathlib.Core.Bool.{Bool, true, false, not, cond}
+use mathlib.Core.Bool.{Bool, true, not, cond}
 use mathlib.Core.List.{List, [], _∷_, _++_}
 use Prim.Native.Nat.{ℕ, zero, suc, _-_}
 use lib.Dec.{eqb, ltb}
 use lib.ListN.{length, drop, replicate}
 use lib.Seq.{sets}
-use Rattle.wire.specs.Answer.{Answer, result, refused, number}
+use Rattle.wire.specs.Answer.{Answer, result, refused, ifResult, number}
 use Rattle.wire.specs.Text.{joined}
 use Rattle.group.specs.Group.{groupBytes}
 use Rattle.line_list.specs.Lines.{linesBytes}
 use Rattle.server_session.specs.Session.{Session, freshSession}
 use Rattle.client_session.specs.Session.{Client, freshClient}
-use Rattle.client_session.specs.Call.{Progress, sent, awaited, over, complete, values, valueCount, ClientSaid}
+use Rattle.client_session.specs.Call.{Progress, valueCount, ClientSaid}
 use Rattle.client_session.specs.Start.{initSays, querySays}
 use Rattle.client_session.specs.Piece.{pieceSays, storeAfter}
 use Rattle.client_session.specs.Pieces.{fed}
@@ -26,11 +26,6 @@ use Rattle.bench.specs.Deliver.{pieces}
 use Rattle.bench.specs.declared.RunAnswer.{RunAnswer}
 use Rattle.bench.specs.declared.RunAnswer.the-variants as answer
 use Rattle.bench.specs.declared.BenchRun.{BenchRun}
-
--- an answer, by whether it has a number
-abbrev pub ifResult : {A X : Type 0} → Answer A → (ℕ → X) → (A → X) → X
-ifResult (result a) refuse say = say a
-ifResult (refused n) refuse say = refuse n
 
 -- ---- the buffers of the run, large enough for all that a script can ask for
 
@@ -85,19 +80,10 @@ round b command list =
 abbrev pub later : List (List ℕ) → Round → Round
 later handed t = record { answer = t .answer; text = t .text; bench = t .bench; handed = handed ++ t .handed }
 
--- the client has a further command to send
-abbrev pub isSent : Answer Progress → Bool
-isSent (result sent) = true
-isSent (result awaited) = false
-isSent (result over) = false
-isSent (result complete) = false
-isSent (result (values n)) = false
-isSent (refused n) = false
-
--- at most n further commands of the client are taken to the server
+-- at most n further commands of the client are taken to the server: it has one where there are bytes to send
 abbrev pub onward : ℕ → Round → List ℕ → Round
 onward zero t list = t
-onward (suc n) t list = cond (isSent (t .answer)) (later (t .handed) (onward n (round (t .bench) (t .text) list) list)) t
+onward (suc n) t list = cond (ltb 0 (length (t .text))) (later (t .handed) (onward n (round (t .bench) (t .text) list) list)) t
 
 -- ---- the initialisation
 

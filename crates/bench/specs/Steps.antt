@@ -7,7 +7,8 @@ use Prim.Native.Nat.{ℕ, _+_, _-_, _≤_}
 use lib.Dec.{ltb}
 use lib.ListN.{length, take, drop}
 use lib.Seq.{sets}
-use Rattle.wire.specs.Answer.{Answer, result, refused, number}
+use Rattle.wire.specs.Answer.{Answer, result, refused, ifResult, number, countAnswer}
+use Rattle.wire.specs.declared.Count.{Count}
 use Rattle.wire.specs.Text.{joined}
 use Rattle.group.specs.Group.{groupBytes}
 use Rattle.group.specs.Format.{stepOf, readRow, answerOf}
@@ -15,7 +16,7 @@ use Rattle.line_list.specs.Lines.{linesBytes, lineFormat}
 use Rattle.server_session.specs.declared.ServerSession.{ServerSession}
 use Rattle.server_session.specs.Session.{Session, session, freshSession}
 use Rattle.client_session.specs.Session.{Client, client, freshClient}
-use Rattle.client_session.specs.Call.{sent, complete, ClientSaid, ClientServed, clientLent, clientAnswer, clientStep}
+use Rattle.client_session.specs.Call.{complete, ClientSaid, ClientServed, clientLent, clientAnswer, clientStep}
 use Rattle.client_session.specs.Start.{initSays}
 use Rattle.client_session.specs.Pieces.{fed}
 use Rattle.bench.specs.declared.Delivery.{Delivery}
@@ -25,16 +26,10 @@ use Rattle.bench.specs.Deliver.{pieces}
 use Rattle.bench.specs.Script.{Query, queryFormat, script}
 use Rattle.bench.specs.declared.QueryStep.{QueryStep}
 use Rattle.bench.specs.declared.QueryStep.the-variants as step
-use Rattle.bench.specs.declared.ScriptCheck.{ScriptCheck}
-use Rattle.bench.specs.declared.ScriptCheck.the-variants as check
-use Rattle.bench.specs.declared.Skipped.{Skipped}
-use Rattle.bench.specs.declared.Skipped.the-variants as skip
 use Rattle.bench.specs.declared.Bench as code
-use Rattle.bench.specs.declared.PartAnswer.{PartAnswer}
-use Rattle.bench.specs.declared.PartAnswer.the-variants as part
 use Rattle.bench.specs.declared.PartStep.{PartStep}
 use Rattle.bench.specs.declared.Round as code-round
-use Rattle.bench.specs.Run.{Bench, Round, Part, Run, Recorded, sendRoom, replyRoom, reset, finished, ifResult, ended, after}
+use Rattle.bench.specs.Run.{Bench, Round, Part, Run, Recorded, sendRoom, replyRoom, reset, finished, ended, after}
 
 -- An exchange as the code has it: how many bytes stand in the lent out buffer, the next session, and the buffer.
 pub record ExchangeServed : Type 0 where
@@ -116,16 +111,6 @@ pub record OnePiece (d : ClientServed) (kept : List ℕ) (server : ServerSession
   pub waits : r .bench .server ≡ server
   pub unused : r .bench .used ≡ 0
 
--- A query has been started, and its command is the next to be sent.
-pub record Begins (s : ClientSaid) (b : code.Bench) (r : code-round.Round) (out : List ℕ) : Type 0 where
-  pub answer : clientAnswer (r .answer) ≡ result sent
-  pub text : take (r .written) out ≡ s .text
-  pub next : client (r .bench .client) ≡ s .next
-  pub waits : r .bench .server ≡ b .server
-  pub used : r .bench .used ≡ b .used
-  pub inside : r .written ≤ length out
-  pub size : length out ≡ sendRoom
-
 -- A round does what is said.
 pub record RoundDoes (t : Round) (r : code-round.Round) (out reply store lengths : List ℕ) : Type 0 where
   pub answer : clientAnswer (r .answer) ≡ t .answer
@@ -145,9 +130,8 @@ abbrev pub closed : Bench → Part
 closed b = finished (record { answer = result complete; text = []; bench = b; handed = [] })
 
 -- a query's part as the code holds it: the count and the values apart
-abbrev pub partText : PartAnswer → List ℕ → Answer (List ℕ)
-partText (part.Values n) text = result (groupBytes n ++ text)
-partText (part.Refused q) text = refused (number q)
+abbrev pub partText : Count → List ℕ → Answer (List ℕ)
+partText a text = ifResult (countAnswer a) refused λ n. result (groupBytes n ++ text)
 
 -- A query does what is said, and its values stand in the lent buffer.
 pub record PartDoes (p : Part) (r : PartStep) (values store lengths : List ℕ) : Type 0 where
@@ -161,8 +145,7 @@ abbrev pub IsScript : List ℕ → Type 0
 IsScript s = (qs : List Query) × (script s ≡ result qs)
 
 abbrev pub orNone : Answer (List Query) → List Query
-orNone (result qs) = qs
-orNone (refused n) = []
+orNone a = ifResult a (λ n. []) λ qs. qs
 
 abbrev pub queriesOf : List ℕ → List Query
 queriesOf s = orNone (script s)
@@ -208,20 +191,11 @@ queryIn n at q rest = record {
 unfoldable pub queryAt : List ℕ → ℕ → Answer (Option QueryPlace)
 queryAt s at = stepOf queryFormat (queryIn (length s) at) (drop at s)
 
-abbrev pub scriptCheck : ScriptCheck → Answer ℕ
-scriptCheck (check.Queries n) = result n
-scriptCheck (check.Refused r) = refused (number r)
-
 abbrev pub howMany : Answer (List Query) → Answer ℕ
-howMany (refused n) = refused n
-howMany (result qs) = result (length qs)
+howMany a = ifResult a refused λ qs. result (length qs)
 
 unfoldable pub queriesIn : List ℕ → Answer ℕ
 queriesIn s = howMany (script s)
-
-abbrev pub skipped : Skipped → Answer ℕ
-skipped (skip.To next) = result next
-skipped (skip.Refused r) = refused (number r)
 
 -- the position after n lines
 unfoldable pub linesAfter : ℕ → List ℕ → ℕ → Answer ℕ

@@ -1,6 +1,5 @@
 // One query of a script, from its start to its values.
 use crate::Bench;
-use crate::PartAnswer;
 use crate::PartStep;
 use crate::Round;
 use crate::rounds;
@@ -8,6 +7,7 @@ use client_session::ClientAnswer;
 use client_session::ClientSession;
 use client_session::ClientStep;
 use query::EcuCount;
+use wire::Count;
 ghost use mathlib.Core.Path.{_≡_};
 ghost use mathlib.Core.List.{List, []};
 ghost use Prim.Native.Nat.{ℕ, _≤_};
@@ -16,7 +16,7 @@ ghost use Rattle.query.specs.Query.{countOf};
 ghost use Rattle.client_session.specs.Session.{client};
 ghost use Rattle.client_session.specs.Call.{clientLent, clientAnswer, clientStep};
 ghost use Rattle.bench.specs.Run.{sendRoom, replyRoom, startSays, asking, partOf, finished};
-ghost use Rattle.bench.specs.Steps.{benchOf, roundOf, Begins, Comes, partText, closed, PartDoes};
+ghost use Rattle.bench.specs.Steps.{benchOf, roundOf, Comes, partText, closed, PartDoes};
 
 // The number of ECUs that a query waits for, from its count+1 in a script.
 fn ecu_count(count: u16) -> EcuCount
@@ -41,26 +41,6 @@ fn start(session: ClientSession, pids: &[u8], count: u16, out: &mut [u8]) -> Cli
     session.query_pids(pids, ecus, out)
 }
 
-// The client's command for a query is the next to be sent.
-fn begin(bench: Bench, pids: &[u8], count: u16, out: &mut [u8]) -> Round
-    requires { ⌜ (count ≤ 256) × (length (now out) ≡ sendRoom) ⌝ }
-    ensures { λ r. ⌜ Begins (startSays (client (bench .client)) (now (pids .entry)) count) bench r (now (out .exit)) ⌝ }
-{
-    let session = bench.client;
-    let server = bench.server;
-    let begun = start(session, pids, count, out);
-    let client = begun.session;
-    Round {
-        answer: ClientAnswer::Sent,
-        written: begun.written,
-        bench: Bench {
-            client,
-            server,
-            used: bench.used,
-        },
-    }
-}
-
 // Asks a query: its command, and after a repeat that meets `?` the query in full.
 fn ask(
     bench: Bench,
@@ -76,22 +56,39 @@ fn ask(
         r (now (reply .exit)) (now (store .exit)) (now (lengths .entry)) ⌝ }
 {
     let mut out = [0u8; 80];
-    let begun = begin(bench, pids, count, &mut out);
-    rounds::onward(begun, 2, list, lengths, &mut out, reply, store)
+    let session = bench.client;
+    let server = bench.server;
+    let begun = start(session, pids, count, &mut out);
+    let client = begun.session;
+    let waiting = Bench {
+        client,
+        server,
+        used: bench.used,
+    };
+    let first = rounds::round(
+        waiting,
+        begun.written,
+        list,
+        lengths,
+        &mut out,
+        reply,
+        store,
+    );
+    rounds::onward(first, 1, list, lengths, &mut out, reply, store)
 }
 
 // What an answer comes to in the record: so many values, or the number that ends the run.
-pub(crate) fn part_answer(answer: ClientAnswer) -> PartAnswer
+pub(crate) fn part_answer(answer: ClientAnswer) -> Count
     ensures { λ r. ⌜ ((text : List ℕ) → partText r text ≡ partOf (clientAnswer answer) text) ⌝ }
 {
     match answer {
-        ClientAnswer::Sent => PartAnswer::Values(0),
-        ClientAnswer::Awaited => PartAnswer::Values(0),
-        ClientAnswer::Over => PartAnswer::Values(0),
-        ClientAnswer::Complete => PartAnswer::Values(0),
-        ClientAnswer::Values(count) => PartAnswer::Values(count),
-        ClientAnswer::Refused(refusal) => PartAnswer::Refused(refusal),
-        ClientAnswer::Failed(refusal) => PartAnswer::Refused(refusal),
+        ClientAnswer::Sent => Count::Is(0),
+        ClientAnswer::Awaited => Count::Is(0),
+        ClientAnswer::Over => Count::Is(0),
+        ClientAnswer::Complete => Count::Is(0),
+        ClientAnswer::Values(count) => Count::Is(count),
+        ClientAnswer::Refused(refusal) => Count::Refused(refusal),
+        ClientAnswer::Failed(refusal) => Count::Refused(refusal),
     }
 }
 
@@ -124,7 +121,7 @@ fn finish(asked: Round, store: &[u8], values: &mut [u8]) -> PartStep
     let answer = asked.answer;
     let bench = asked.bench;
     let told = part_answer(answer);
-    if let PartAnswer::Refused(_) = told {
+    if let Count::Refused(_) = told {
         return PartStep {
             answer: told,
             written: 0,

@@ -7,6 +7,7 @@ mod script;
 use client_session::ClientAnswer;
 use client_session::ClientSession;
 use server_session::ServerSession;
+use wire::Count;
 use wire::Refusal;
 ghost use mathlib.Core.Path.{_≡_};
 ghost use mathlib.Core.List.{_++_};
@@ -50,18 +51,6 @@ enum QueryStep {
     Refused(Refusal),
 }
 
-enum ScriptCheck {
-    // So many queries.
-    Queries(usize),
-    Refused(Refusal),
-}
-
-// Where some lines end.
-enum Skipped {
-    To(usize),
-    Refused(Refusal),
-}
-
 // Both sessions, and how many piece lengths are used up.
 struct Bench {
     client: ClientSession,
@@ -96,14 +85,9 @@ struct Round {
     bench: Bench,
 }
 
-// How many values a query gave, or the number that ends the run.
-enum PartAnswer {
-    Values(usize),
-    Refused(Refusal),
-}
-
 struct PartStep {
-    answer: PartAnswer,
+    // How many values a query gave, or the number that ends the run.
+    answer: Count,
     // How many bytes of the lent buffer the values take.
     written: usize,
     bench: Bench,
@@ -127,20 +111,14 @@ fn put_part(buffer: &mut [u8], at: usize, count: usize, values: &[u8]) -> usize
 }
 
 // Writes a query's part, which has size bytes of values, into the record from position at on, if there is room for it.
-fn add_part(
-    answer: PartAnswer,
-    size: usize,
-    values: &[u8],
-    buffer: &mut [u8],
-    at: usize,
-) -> BenchRun
+fn add_part(answer: Count, size: usize, values: &[u8], buffer: &mut [u8], at: usize) -> BenchRun
     requires { ⌜ (size ≤ length (now values)) × (at ≤ length (now buffer)) ⌝ }
     ensures { λ r. ⌜ recorded r (now (buffer .exit)) ≡
         lentFrom at (added (length (now (buffer .entry)) - at) (partText answer (take size (now (values .entry))))) (now (buffer .entry)) ⌝ }
 {
     match answer {
-        PartAnswer::Refused(refusal) => refused(refusal, at),
-        PartAnswer::Values(count) => {
+        Count::Refused(refusal) => refused(refusal, at),
+        Count::Is(count) => {
             if buffer.len() - at < group::group_size(count) + size {
                 return refused(Refusal::SmallBuffer, at);
             }
@@ -216,7 +194,7 @@ fn run_checked(script: &[u8], lengths: &[u8], repeat: bool, buffer: &mut [u8]) -
     let begun = rounds::initialise(repeat, lengths, &mut work, &mut store);
     let answer = begun.answer;
     let told = ask::part_answer(answer);
-    if let PartAnswer::Refused(refusal) = told {
+    if let Count::Refused(refusal) = told {
         return refused(refusal, 0);
     }
     let bench = begun.bench;
@@ -230,7 +208,7 @@ pub fn run(script: &[u8], lengths: &[u8], repeat: bool, buffer: &mut [u8]) -> Be
         runLent (runSays repeat (now (lengths .entry)) (length (now (buffer .entry))) (now (script .entry))) (now (buffer .entry)) ⌝ }
 {
     match script::check_script(script) {
-        ScriptCheck::Queries(_) => run_checked(script, lengths, repeat, buffer),
-        ScriptCheck::Refused(refusal) => refused(refusal, 0),
+        Count::Is(_) => run_checked(script, lengths, repeat, buffer),
+        Count::Refused(refusal) => refused(refusal, 0),
     }
 }

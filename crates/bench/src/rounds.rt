@@ -3,7 +3,6 @@ use crate::Bench;
 use crate::ExchangeStep;
 use crate::Round;
 use crate::exchange;
-use client_session::ClientAnswer;
 use client_session::ClientSession;
 use client_session::ClientStep;
 use server_session::ServerSession;
@@ -16,7 +15,7 @@ ghost use Rattle.client_session.specs.Session.{client, freshClient};
 ghost use Rattle.client_session.specs.Call.{clientLent, clientAnswer, clientStep};
 ghost use Rattle.client_session.specs.Start.{initSays};
 ghost use Rattle.client_session.specs.Piece.{pieceSays, storeAfter};
-ghost use Rattle.bench.specs.Run.{sendRoom, replyRoom, freshStore, round, isSent, onward, initialised};
+ghost use Rattle.bench.specs.Run.{sendRoom, replyRoom, freshStore, round, onward, initialised};
 ghost use Rattle.bench.specs.Steps.{delivered, benchOf, roundOf, resetFresh, Room, FreshHears, Back, OnePiece, RoundDoes, Comes};
 
 // What the server sent goes back to the client in pieces.
@@ -48,7 +47,7 @@ fn back(
 }
 
 // The client's first n bytes of out go to the server, and all that it sends for them comes back in pieces.
-fn round(
+pub(crate) fn round(
     bench: Bench,
     n: usize,
     list: &[u8],
@@ -69,22 +68,7 @@ fn round(
     back(client, next, &reply[..end], lengths, bench.used, out, store)
 }
 
-// Whether the client has a further command to send.
-fn is_sent(answer: ClientAnswer) -> bool
-    ensures { λ r. ⌜ r ≡ isSent (clientAnswer answer) ⌝ }
-{
-    match answer {
-        ClientAnswer::Sent => true,
-        ClientAnswer::Awaited => false,
-        ClientAnswer::Over => false,
-        ClientAnswer::Complete => false,
-        ClientAnswer::Values(_) => false,
-        ClientAnswer::Refused(_) => false,
-        ClientAnswer::Failed(_) => false,
-    }
-}
-
-// At most n further commands.
+// At most n further commands: the client has one where there are bytes to send.
 pub(crate) fn onward(
     mut at: Round,
     n: usize,
@@ -100,8 +84,7 @@ pub(crate) fn onward(
 {
     let mut left = n;
     while 0 < left {
-        let answer = at.answer;
-        if !is_sent(answer) {
+        if at.written == 0 {
             return at;
         }
         let bench = at.bench;

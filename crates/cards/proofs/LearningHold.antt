@@ -24,7 +24,7 @@ use Rattle.cards.specs.Learning.{learning, numbered}
 pub learning-holds : AsExpected learning
 unfolding isSpace raised has high hexDigit digit leading j1979 mode01Lengths groupBytes valueFormat queryText textLines textLine replyLines walked
     answerOrder learnLength unless readReply framingEffect commandSays querySays replyTakes pieceSays finishSays
-learning-holds = (refl, (refl, (refl, (refl, (refl, (refl, (refl, (refl, (refl, (refl, (refl, (refl, (refl, (refl, (refl, (refl, (refl, (refl, (refl, (refl, tt))))))))))))))))))))
+learning-holds = (refl, (refl, (refl, (refl, (refl, (refl, (refl, (refl, (refl, (refl, (refl, (refl, (refl, (refl, (refl, (refl, (refl, (refl, (refl, (refl, (refl, tt)))))))))))))))))))))
 
 pub numbered-hold : AsExpected numbered
 unfolding isSpace raised has high hexDigit digit leading j1979 mode01Lengths groupBytes valueFormat queryText textLines textLine replyLines walked

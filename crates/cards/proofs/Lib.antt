@@ -4,3 +4,4 @@ pub mod TextsHold
 pub mod ServerHold
 pub mod ClientHold
 pub mod LearningHold
+pub mod HostsHold

@@ -1,6 +1,7 @@
 -- The examples of the server's end hold, by computation.
 use mathlib.Core.Path.{refl}
 use Rattle.wire.specs.Answer.{unless}
+use Rattle.wire.specs.Put.{putWhole}
 use Rattle.wire.specs.Text.{high, isSpace, raised}
 use Rattle.hex.specs.Digits.{hexDigit}
 use Rattle.line_list.specs.Lines.{lineList}
@@ -15,5 +16,5 @@ use Rattle.cards.specs.Example.{AsExpected}
 use Rattle.cards.specs.Server.{server}
 
 pub server-holds : AsExpected server
-unfolding high isSpace raised hexDigit lineList atKind lineText replyText replied replySize canonical unless byteTaken byteSays bytesSay answerSays replySays rejectSays exchanged
+unfolding high isSpace raised hexDigit lineList atKind lineText replyText putWhole replied replySize canonical unless byteTaken byteSays bytesSay answerSays replySays rejectSays exchanged
 server-holds = (refl, (refl, (refl, (refl, (refl, (refl, (refl, (refl, (refl, (refl, (refl, (refl, (refl, (refl, (refl, (refl, (refl, (refl, (refl, (refl, (refl, (refl, (refl, (refl, (refl, (refl, (refl, (refl, (refl, tt)))))))))))))))))))))))))))))

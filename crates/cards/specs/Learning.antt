@@ -12,9 +12,9 @@ use Rattle.pid.specs.Lengths.{mode01Lengths, lengthIn}
 use Rattle.line_list.specs.Lines.{line}
 use Rattle.value.specs.Values.{value}
 use Rattle.reply_values.specs.Learn.{learnLength, ecusGiving}
-use Rattle.reply_values.specs.declared.ReadAnswer.the-variants as read
+use Rattle.wire.specs.declared.Count.the-variants as count
 use Rattle.wire.specs.declared.Refusal.the-variants.{SmallBuffer}
-use Rattle.reply_values.specs.Read.{Asked, ReadServed, replyRead, readReply}
+use Rattle.reply_values.specs.Read.{ReadServed, replyRead, readReply}
 use Rattle.server_state.specs.declared.FeatureSupport.the-variants as support
 use Rattle.server_state.specs.State.{countIn}
 use Rattle.client_session.specs.declared.Under.the-variants as under
@@ -48,12 +48,12 @@ unlike = "7E80441E00102\r7E90541E0010203\r\r>"
 abbrev bothEcus : ClientSaid
 bothEcus = answering (querySays 80 framed (0xE0 ∷ []) 0 false) alike
 
--- a reply read for `query_pid` of E0, framed, with so much room
-abbrev askedE0 : Asked
-askedE0 = record { framing = true; several = false; pids = 0xE0 ∷ []; lengths = mode01Lengths; counts = replicate 256 0 }
+-- a reply read for `query_pid` of E0, framed, with a lent buffer
+abbrev readE0 : List ℕ → List ℕ → ReadServed
+readE0 text out = readReply (framed .server) (0xE0 ∷ []) false text out
 
 abbrev readUnlike : ℕ → ReadServed
-readUnlike room = readReply askedE0 (ascii unlike) (replicate room 9)
+readUnlike room = readE0 (ascii unlike) (replicate room 9)
 
 -- `query_pid` of E0, unframed: a line shows that it has one byte, and another has a value of it before two bytes
 abbrev alone : ClientSaid
@@ -69,11 +69,12 @@ learning =
     example "two values" (bothEcus .answer) (clientAnswer (answer.Values 2)) ∷
     example "its length is learned" (lengthIn (bothEcus .next .server .«pid_lengths») 0xE0) (some 3) ∷
     example "and its count, 2" (countIn (bothEcus .next .server .«ecu_counts») 0xE0) 3 ∷
-    example "E0 with two lengths: two values, 17 bytes, one queried PID among them" (readUnlike 18 .answer) (result (record { count = 2; written = 17; given = 1 })) ∷
+    example "E0 with two lengths: two values" (readUnlike 18 .answer) (result 2) ∷
+    example "in 17 bytes" (readUnlike 18 .written) 17 ∷
     example "its values" (readUnlike 18 .out) (0xE0 ∷ 0xE9 ∷ 0x0F ∷ 0x04 ∷ 0x41 ∷ 0xE0 ∷ 1 ∷ 2 ∷ 0xE0 ∷ 0xEA ∷ 0x0F ∷ 0x05 ∷ 0x41 ∷ 0xE0 ∷ 1 ∷ 2 ∷ 3 ∷ 9 ∷ []) ∷
-    example "no length is learned" (lengthIn (readUnlike 18 .lengths) 0xE0 ∷ lengthIn (answering (querySays 80 framed (0xE0 ∷ []) 0 false) unlike .next .server .«pid_lengths») 0xE0 ∷ []) (none ∷ none ∷ []) ∷
-    example "with room for 16 bytes nothing is learned or written" (readUnlike 16) (replyRead (record { answer = read.Refused SmallBuffer; lengths = mode01Lengths; counts = replicate 256 0 }) (replicate 16 9)) ∷
-    example "which is 6, and 8 for a reply over 4,096 bytes" (readUnlike 16 .answer ∷ readReply askedE0 (replicate 4097 13) [] .answer ∷ []) (refused 6 ∷ refused 8 ∷ []) ∷
+    example "no length is learned" (lengthIn (readUnlike 18 .server .«pid_lengths») 0xE0 ∷ lengthIn (answering (querySays 80 framed (0xE0 ∷ []) 0 false) unlike .next .server .«pid_lengths») 0xE0 ∷ []) (none ∷ none ∷ []) ∷
+    example "with room for 16 bytes nothing is learned or written" (readUnlike 16) (replyRead (record { answer = count.Refused SmallBuffer; written = 0; server = framed .server }) (replicate 16 9)) ∷
+    example "which is 6, and 8 for a reply over 4,096 bytes" (readUnlike 16 .answer ∷ readE0 (replicate 4097 13) [] .answer ∷ []) (refused 6 ∷ refused 8 ∷ []) ∷
     example "a length of 1 that is learned cuts the value after it, and the byte left is a PID without data" (alone .text)
     (0xE0 ∷ 0 ∷ 3 ∷ 0x41 ∷ 0xE0 ∷ 0x01 ∷ 0x0D ∷ 0 ∷ 3 ∷ 0x41 ∷ 0x0D ∷ 0x20 ∷ 0xE0 ∷ 0 ∷ 3 ∷ 0x41 ∷ 0xE0 ∷ 0x01 ∷ 0x02 ∷ 0 ∷ 2 ∷ 0x41 ∷ 0x02 ∷ []) ∷
     example "the counts of E0, 0D and 02 are 2, 1 and 1" (map (countIn (alone .next .server .«ecu_counts»)) (0xE0 ∷ 0x0D ∷ 0x02 ∷ [])) (3 ∷ 2 ∷ 2 ∷ []) ∷

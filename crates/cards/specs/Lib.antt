@@ -5,3 +5,4 @@ pub mod Texts
 pub mod Server
 pub mod Client
 pub mod Learning
+pub mod Hosts

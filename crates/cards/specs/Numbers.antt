@@ -4,17 +4,17 @@ use mathlib.Core.List.{List, [], _∷_, map}
 use mathlib.Core.Option.{none, some}
 use Prim.Native.Nat.{ℕ}
 use lib.ListN.{replicate}
-use Rattle.wire.specs.Answer.{result, refused}
+use Rattle.wire.specs.Answer.{result, refused, countAnswer}
+use Rattle.wire.specs.Put.{countWritten}
+use Rattle.wire.specs.declared.Count.the-variants as count
 use Rattle.wire.specs.declared.Refusal.the-variants.{Malformed, SmallBuffer}
 use Rattle.group.specs.Group.{got, groupBytes}
 use Rattle.group.specs.Answers.{groupRead, groupAt}
 use Rattle.group.specs.declared.GroupRead.the-variants as group
 use Rattle.group.specs.Format.{writeRow}
 use Rattle.line_list.specs.Lines.{line, lineFormat, linesBytes}
-use Rattle.line_list.specs.Answers.{listStep, lineAt, linesCheck, linesIn, lineWritten, putLine}
+use Rattle.line_list.specs.Answers.{listStep, lineAt, linesIn, putLine}
 use Rattle.line_list.specs.declared.LineStep.the-variants as lines
-use Rattle.line_list.specs.declared.LinesCheck.the-variants as list
-use Rattle.line_list.specs.declared.LinePut.the-variants as put
 use Rattle.value.specs.Values.{Value, value, valueFormat, partFormat, readRecord}
 use Rattle.value.specs.Answers.{valueStep, valueAt}
 use Rattle.value.specs.Same.{ofPid}
@@ -64,20 +64,20 @@ numbers =
     example "80 00 is not the shortest form" (groupAt 511 (0x80 ∷ 0x00 ∷ []) 0) (refused 5) ∷
     example "300 is over 255" (groupAt 255 (0xAC ∷ 0x02 ∷ []) 0) (refused 5) ∷
     example "a number that does not end" (groupAt 511 (0x80 ∷ []) 0) (groupRead (group.Refused Malformed)) ∷
-    example "one line" (linesIn speedLine) (linesCheck (list.Lines 1)) ∷
+    example "one line" (linesIn speedLine) (countAnswer (count.Is 1)) ∷
     example "its ECU, its data and the next line" (lineAt speedLine 0) (result (some (record { ecu = 0; start = 2; next = 5 }))) ∷
     example "no line after it" (lineAt speedLine 5) (listStep lines.End) ∷
     example "an ECU of 4,096 and one of 4,097" (linesIn (0x80 ∷ 0x20 ∷ 0x00 ∷ []) ∷ linesIn (0x81 ∷ 0x20 ∷ 0x00 ∷ []) ∷ []) (result 1 ∷ refused 5 ∷ []) ∷
-    example "a line of 256 bytes" (linesIn (0x00 ∷ 0x80 ∷ 0x02 ∷ replicate 256 0)) (linesCheck (list.Refused Malformed)) ∷
+    example "a line of 256 bytes" (linesIn (0x00 ∷ 0x80 ∷ 0x02 ∷ replicate 256 0)) (countAnswer (count.Refused Malformed)) ∷
     example "a line cut short" (lineAt (0x00 ∷ 0x03 ∷ 0x41 ∷ []) 0) (listStep (lines.Refused Malformed)) ∷
     example "64 and 65 lines" (linesIn (replicate 128 0) ∷ linesIn (replicate 130 0) ∷ []) (result 64 ∷ refused 5 ∷ []) ∷
     example "a line of 7E8" (linesBytes (line 0x7E9 (0x41 ∷ 0x0D ∷ 0x20 ∷ []) ∷ [])) (0xE9 ∷ 0x0F ∷ 0x03 ∷ 0x41 ∷ 0x0D ∷ 0x20 ∷ []) ∷
     example "an ECU+1 of 4,096 and 255 bytes, written" (lineFormat .write (line 4096 (replicate 255 0x20))) longest ∷
     example "the same read" (lineFormat .read longest) (got (line 4096 (replicate 255 0x20)) []) ∷
-    example "a line written into what it takes, after two bytes" (putLine (replicate 7 0xFF) 2 (line 0 (0x41 ∷ 0x0D ∷ 0x20 ∷ []))) (lineWritten (put.To 7) (0xFF ∷ 0xFF ∷ speedLine)) ∷
-    example "a byte less" (putLine (replicate 6 0xFF) 2 (line 0 (0x41 ∷ 0x0D ∷ 0x20 ∷ []))) (lineWritten (put.Refused SmallBuffer) (replicate 6 0xFF)) ∷
+    example "a line written into what it takes, after two bytes" (putLine (replicate 7 0xFF) 2 (line 0 (0x41 ∷ 0x0D ∷ 0x20 ∷ []))) (countWritten (count.Is 7) (0xFF ∷ 0xFF ∷ speedLine)) ∷
+    example "a byte less" (putLine (replicate 6 0xFF) 2 (line 0 (0x41 ∷ 0x0D ∷ 0x20 ∷ []))) (countWritten (count.Refused SmallBuffer) (replicate 6 0xFF)) ∷
     example "an ECU+1 of 4,097, and 256 bytes, for no room" (putLine [] 0 (line 4097 []) ∷ putLine [] 0 (line 0 (replicate 256 0)) ∷ [])
-    (replicate 2 (lineWritten (put.Refused Malformed) [])) ∷
+    (replicate 2 (countWritten (count.Refused Malformed) [])) ∷
     example "card 1's value written" (valueFormat .write (value 0x0C 0x7E9 (0x1A ∷ 0xF8 ∷ []))) engineSpeed ∷
     example "the worked part written" (partFormat .write (value 0x0C 0x7E9 (0x1A ∷ 0xF8 ∷ []) ∷ [])) (0x01 ∷ engineSpeed) ∷
     example "the same read, before a byte" (partFormat .read (0x01 ∷ 0x0C ∷ 0xE9 ∷ 0x0F ∷ 0x04 ∷ 0x41 ∷ 0x0C ∷ 0x1A ∷ 0xF8 ∷ 0x07 ∷ [])) (got (value 0x0C 0x7E9 (0x1A ∷ 0xF8 ∷ []) ∷ []) (0x07 ∷ [])) ∷
@@ -89,7 +89,7 @@ numbers =
     example "a record of two queries" (readRecord twoParts) (got speeds []) ∷
     example "the same record written" (writeRow partFormat speeds) twoParts ∷
     example "the values of a PID" (ofPid 0x0D (value 0x0C 0 (0x1A ∷ 0xF8 ∷ []) ∷ value 0x0D 0 (0x20 ∷ []) ∷ [])) (value 0x0D 0 (0x20 ∷ []) ∷ []) ∷
-    example "J1979: 1F, 24, 64, C0, 66 and E0" (map j1979 (0x1F ∷ 0x24 ∷ 0x64 ∷ 0xC0 ∷ 0x66 ∷ 0xE0 ∷ [])) (some 2 ∷ some 4 ∷ some 5 ∷ some 4 ∷ none ∷ none ∷ []) ∷
+    example "lengths of 1F, 24, 64, C0, and of 66 and E0, which the table has not" (map j1979 (0x1F ∷ 0x24 ∷ 0x64 ∷ 0xC0 ∷ 0x66 ∷ 0xE0 ∷ [])) (some 2 ∷ some 4 ∷ some 5 ∷ some 4 ∷ none ∷ none ∷ []) ∷
     example "the table: 1F, 64 and E0" (map (lengthIn mode01Lengths) (0x1F ∷ 0x64 ∷ 0xE0 ∷ [])) (dataLength (Known 2) ∷ dataLength (Known 5) ∷ dataLength Unknown ∷ []) ∷
     example "a learned length of 0 is known" (entryLength 0) (some 0) ∷
     example "the known set: 65, 66, 80, A0, C0 and E0" (map listed (0x65 ∷ 0x66 ∷ 0x80 ∷ 0xA0 ∷ 0xC0 ∷ 0xE0 ∷ [])) (true ∷ false ∷ true ∷ true ∷ true ∷ false ∷ []) ∷

@@ -5,13 +5,14 @@ use Prim.Native.Nat.{ℕ, _-_}
 use Prim.Native.String.{String}
 use lib.ListN.{length, replicate}
 use Rattle.wire.specs.Answer.{result, refused, number}
+use Rattle.wire.specs.Put.{countWritten}
+use Rattle.wire.specs.declared.Count.the-variants as count
 use Rattle.wire.specs.declared.Refusal.the-variants.{OutOfTurn, PidCount, TooLong, NotAscii, Malformed, SmallBuffer, Disconnected, ReplyTooLong, ReplyNotAscii, LineFull, ByteNotAscii}
 use Rattle.wire.specs.Text.{ascii}
 use Rattle.at_command.specs.Dialect.{atKind, kindLines}
 use Rattle.reply.specs.Shape.{chipReply}
-use Rattle.reply.specs.Answers.{replied, replyWritten}
+use Rattle.reply.specs.Answers.{replied}
 use Rattle.reply.specs.Steps.{replySize}
-use Rattle.reply.specs.declared.ReplyAnswer.the-variants as written
 use Rattle.server_session.specs.Session.{Session, freshSession}
 use Rattle.server_session.specs.declared.Phase.{Phase}
 use Rattle.server_session.specs.declared.Phase.the-variants.{Reading, ObdCommand}
@@ -95,9 +96,9 @@ server =
     (map number (OutOfTurn ∷ PidCount ∷ TooLong ∷ NotAscii ∷ Malformed ∷ SmallBuffer ∷ Disconnected ∷ ReplyTooLong ∷ ReplyNotAscii ∷ LineFull ∷ ByteNotAscii ∷ []))
     (1 ∷ 2 ∷ 3 ∷ 4 ∷ 5 ∷ 6 ∷ 7 ∷ 8 ∷ 9 ∷ 10 ∷ 11 ∷ []) ∷
     example "the size of a reply" (replySize true true false speedLine ∷ replySize true true false (0 ∷ []) ∷ []) (result 13 ∷ refused 5 ∷ []) ∷
-    example "a reply in 14 bytes" (replied true true false speedLine (replicate 14 9)) (replyWritten (written.Written 13) (ended "41 0D 20" ++ (9 ∷ []))) ∷
+    example "a reply in 14 bytes" (replied true true false speedLine (replicate 14 9)) (countWritten (count.Is 13) (ended "41 0D 20" ++ (9 ∷ []))) ∷
     example "a reply in 12 bytes, and of a malformed list" (replied true true false speedLine (replicate 12 9) ∷ replied true true false (0 ∷ []) (9 ∷ []) ∷ [])
-    (replyWritten (written.Refused SmallBuffer) (replicate 12 9) ∷ replyWritten (written.Refused Malformed) (9 ∷ []) ∷ []) ∷
+    (countWritten (count.Refused SmallBuffer) (replicate 12 9) ∷ countWritten (count.Refused Malformed) (9 ∷ []) ∷ []) ∷
     example "the chip's replies, with linefeeds off" (chipReply false (ascii "7E804410C1AF8" ∷ ascii "7E904410C1AF8" ∷ [])) (ascii "7E804410C1AF8\r7E904410C1AF8\r\r>") ∷
     example "AT answers after the echo" (map (atSends freshSession) ("ATRV" ∷ "ATDP" ∷ "ATDPN" ∷ "ATI" ∷ "AT@1" ∷ "at st 96" ∷ "AT" ∷ "ATDPX" ∷ []))
     (ended "ATRV\r12.6V" ∷ ended "ATDP\rAUTO, ISO 15765-4 (CAN 11/500)" ∷ ended "ATDPN\rA6" ∷ ended "ATI\rELM327 v1.5" ∷ ended "AT@1\rELM327" ∷ ended "at st 96\rOK" ∷ ended "AT\r?" ∷

@@ -5,7 +5,7 @@ use mathlib.Core.Option.{none, some}
 use Prim.Native.Nat.{ℕ}
 use lib.ListN.{replicate}
 use Rattle.wire.specs.Text.{ascii, same, begins, isSpace, raised, has, high}
-use Rattle.hex.specs.Digits.{hexByte, hexId, hexBytes}
+use Rattle.hex.specs.Digits.{hexDigits, hexByte, hexBytes}
 use Rattle.hex.specs.Read.{digit, hexNumber, pairBytes}
 use Rattle.hex.specs.Answers.{digitOf, hexOf}
 use Rattle.hex.specs.declared.HexDigit.the-variants as digits
@@ -36,7 +36,7 @@ texts =
     example "an id and a pair, good and bad" (hexNumber (ascii "7E8") ∷ hexNumber (ascii "8 0") ∷ hexNumber (ascii "+c") ∷ hexNumber (ascii "c+") ∷ [])
     (map hexOf (hex.Number 0x7E8 ∷ hex.Bad ∷ hex.Number 0x0C ∷ hex.Bad ∷ [])) ∷
     example "a bad pair and an odd last digit are skipped" (pairBytes (ascii "1g2A3")) (0x2A ∷ []) ∷
-    example "digits written" (hexId 0x7E8 ++ (hexId 0x00C ++ (hexByte 0x0C ++ hexBytes (0x41 ∷ 0xAF ∷ [])))) (ascii "7E800C0C41AF") ∷
+    example "digits written" (hexDigits 3 0x7E8 ++ (hexDigits 3 0x00C ++ (hexByte 0x0C ++ hexBytes (0x41 ∷ 0xAF ∷ [])))) (ascii "7E800C0C41AF") ∷
     example "a query's text with no count, 5, 16 and 255" (map (queryText (0x0C ∷ [])) (map countOf (Any ∷ Given 5 ∷ Given 16 ∷ Given 255 ∷ [])))
     (ascii "010C" ∷ ascii "010C 5" ∷ ascii "010C 16" ∷ ascii "010C 255" ∷ []) ∷
     example "a kept query's text" (text (record { bytes = ascii "010C 1" ++ replicate 12 0xFF; len = 6 })) (ascii "010C 1") ∷

@@ -24,9 +24,6 @@ initSays room c =
     (clientRefusing c) (sends c Reset (ascii "ATZ\r"))
 
 -- "Raw command: CR added unless it ends in one. Starting one forgets the last command."
-abbrev pub sendRaw : Client → List ℕ → ClientSaid
-sendRaw c command = sends (withLastQuery c []) (Raw (framingEffect command)) (withCR command)
-
 unfoldable pub commandSays : ℕ → Client → List ℕ → ClientSaid
 commandSays room c command =
     unless (
@@ -34,7 +31,7 @@ commandSays room c command =
     (ltb 64 (length command), 3) ∷
     (high command, 4) ∷
     (ltb room 80, 6) ∷ [])
-    (clientRefusing c) (sendRaw c command)
+    (clientRefusing c) (sends (withLastQuery c []) (Raw (framingEffect command)) (withCR command))
 
 -- "If repeat is not No and the query equals the last one, a bare CR goes out"
 abbrev pub sendQuery : Client → Request → ClientSaid

@@ -16,11 +16,12 @@ ghost use lib.ListN.{length};
 ghost use Rattle.wire.specs.Steps.{settled};
 ghost use Rattle.wire.specs.Text.{ascii, same};
 ghost use Rattle.query.specs.Query.{countOf};
+ghost use Rattle.client_command.specs.Commands.{withCR, framingEffect};
 ghost use Rattle.query_text.specs.Text.{text};
 ghost use Rattle.server_state.specs.State.{mayTry};
-ghost use Rattle.client_session.specs.Session.{Client, client, withQuery};
+ghost use Rattle.client_session.specs.Session.{Client, client, withQuery, withLastQuery};
 ghost use Rattle.client_session.specs.Call.{sends, clientRefusing, clientLent, clientStep, RefusedOrFailed};
-ghost use Rattle.client_session.specs.Start.{initSays, sendRaw, commandSays, sendQuery, request, querySays};
+ghost use Rattle.client_session.specs.Start.{initSays, commandSays, sendQuery, request, querySays};
 ghost use Rattle.client_session.specs.Steps.{Does, Early};
 
 // Whether the initialisation is refused.
@@ -39,7 +40,8 @@ fn init_verdict(under: Under, room: usize) -> Verdict
 
 // Whether a raw command is refused.
 fn command_verdict(under: Under, command: &[u8], room: usize) -> Verdict
-    ensures { λ r. ⌜ ((c : Client) → c .under ≡ under → commandSays room c (now (command .entry)) ≡ settled r (clientRefusing c) (sendRaw c (now (command .entry)))) ⌝ }
+    ensures { λ r. ⌜ ((c : Client) → c .under ≡ under → commandSays room c (now (command .entry)) ≡
+        settled r (clientRefusing c) (sends (withLastQuery c []) (Command.Raw (framingEffect (now (command .entry)))) (withCR (now (command .entry))))) ⌝ }
     ensures { λ r. ⌜ Early r ⌝ }
 {
     if !crate::is_idle(under) {

@@ -13,7 +13,7 @@ use Rattle.wire.proofs.PutLaws.{put-then}
 use Rattle.wire.proofs.Cases.{by-test, at-below, holds, held}
 use Rattle.wire.proofs.All.{All, all-append}
 use Rattle.hex.specs.Read.{digit, leading, shifted, digitsAfter, hexNumber, pairBytes}
-use Rattle.hex.specs.Digits.{hexDigit, hexDigits, hexByte, hexId, hexBytes}
+use Rattle.hex.specs.Digits.{hexDigit, hexDigits, hexByte, hexBytes}
 
 -- ---- one digit
 
@@ -71,7 +71,7 @@ digits-back (suc w) n =
 pub byte-back : (b : ℕ) → b < 256 → hexNumber (hexByte b) ≡ some b
 byte-back b h = digits-back 1 b ∙ ap some (mod-eq-of-lt h)
 
-pub id-back : (n : ℕ) → n < 4096 → hexNumber (hexId n) ≡ some n
+pub id-back : (n : ℕ) → n < 4096 → hexNumber (hexDigits 3 n) ≡ some n
 id-back n h = digits-back 2 n ∙ ap some (mod-eq-of-lt h)
 
 -- what holds of the sixteen digits holds of every character of a number, and of data

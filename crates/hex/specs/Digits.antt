@@ -13,12 +13,9 @@ abbrev pub hexDigits : ℕ → ℕ → List ℕ
 hexDigits zero n = []
 hexDigits (suc w) n = hexDigits w (n / 16) ++ (hexDigit (n % 16) ∷ [])
 
--- a byte is a pair of digits, an id three
+-- a byte is a pair of digits
 abbrev pub hexByte : ℕ → List ℕ
 hexByte b = hexDigits 2 b
-
-abbrev pub hexId : ℕ → List ℕ
-hexId n = hexDigits 3 n
 
 -- data in capital hex: a pair for each byte, nothing between them
 abbrev pub hexBytes : List ℕ → List ℕ

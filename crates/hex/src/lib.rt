@@ -4,7 +4,7 @@ ghost use mathlib.Core.List.{[], _∷_};
 ghost use Prim.Native.Nat.{_%_};
 ghost use Rattle.wire.specs.Put.{Put};
 ghost use Rattle.hex.specs.Read.{digit, leading, hexNumber};
-ghost use Rattle.hex.specs.Digits.{hexDigit, hexByte, hexId};
+ghost use Rattle.hex.specs.Digits.{hexDigit, hexDigits, hexByte};
 ghost use Rattle.hex.specs.Answers.{digitOf, hexOf};
 
 pub enum HexDigit {
@@ -87,7 +87,7 @@ pub fn put_hex_byte(out: &mut [u8], at: usize, byte: u8) -> usize
 
 // The low 12 bits of an id as three digits, from position at on.
 pub fn put_hex_id(out: &mut [u8], at: usize, id: u16) -> usize
-    ensures { λ r. ⌜ Put (now (out .entry)) at (hexId id) r (now (out .exit)) ⌝ }
+    ensures { λ r. ⌜ Put (now (out .entry)) at (hexDigits 3 id) r (now (out .exit)) ⌝ }
 {
     let at = put_hex_byte(out, at, (id / 16 % 256) as u8);
     wire::put_byte(out, at, hex_char((id % 16) as u8))

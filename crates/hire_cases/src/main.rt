@@ -1,8 +1,8 @@
 // Runs several bench scripts from standard input one after the other, and prints what `hire` prints for each, with a line `--` after it. A case is a byte for the
 // record buffer (that many bytes; 0 for the 65,536 of `hire`), the script's length as two bytes, the higher first, and the script.
-use hire_text::HireAnswer;
 use libc::STDIN_FILENO;
 use libc::STDOUT_FILENO;
+use wire::Count;
 ghost use Prim.Native.Nat.{_≤_};
 
 // Prints what `hire` prints for a script, with the first size bytes of a record buffer.
@@ -11,8 +11,7 @@ fn print_case(script: &[u8], record: &mut [u8], size: usize) {
         return;
     }
     let mut out = [0u8; 196620];
-    let HireAnswer::Written(end) = hire_text::hire_text(script, &mut record[..size], &mut out)
-    else {
+    let Count::Is(end) = hire_text::hire_text(script, &mut record[..size], &mut out) else {
         return;
     };
     io::write_all(STDOUT_FILENO, &out[..end]);

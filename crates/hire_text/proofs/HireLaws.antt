@@ -7,17 +7,16 @@ use native.Mathlib.Omega.{arith}
 use lib.ListN.{length, take, length-append}
 use lib.Seq.{sets, length-sets, take-all}
 use Rattle.wire.specs.declared.Refusal.the-variants.{SmallBuffer}
-use Rattle.wire.specs.Put.{Put, putWhole}
-use Rattle.wire.specs.Put.{Written as Filled}
+use Rattle.wire.specs.declared.Count.{Count}
+use Rattle.wire.specs.declared.Count.the-variants.{Is, Refused}
+use Rattle.wire.specs.Put.{Put, Written, countWritten, putWhole}
 use Rattle.wire.specs.Text.{joined}
 use Rattle.wire.proofs.PutLaws.{put-then, put-front, put-whole, whole-small, whole-stored, whole-told, whole-length}
 use Rattle.bench.specs.declared.BenchRun.{BenchRun}
 use Rattle.bench.specs.Run.{runSays, runAnswer, Recorded, recorded, runLent}
-use Rattle.hire_text.proofs.LineLaws.{lines-length, stop-length}
+use Rattle.hire_text.proofs.LineLaws.{hexLines, stopLine, lines-length, stop-length}
 use Rattle.hire_text.proofs.StandLaws.{run-fits, run-parts}
-use Rattle.hire_text.specs.Hire.{hexLines, stopLine, hireRun, hireText, hireWritten}
-use Rattle.hire_text.specs.declared.HireAnswer.{HireAnswer}
-use Rattle.hire_text.specs.declared.HireAnswer.the-variants.{Written, Refused}
+use Rattle.hire_text.specs.Hire.{hireText}
 use Rattle.hire_text.specs.Steps.{AreParts}
 
 -- what was written stands inside the buffer, in any run
@@ -30,7 +29,7 @@ run-inside repeat ks s buffer left r e =
 
 module _ (s buffer left : List ℕ) (r : BenchRun) (e : recorded r left ≡ runLent (runSays true [] (length buffer) s) buffer) where
   abbrev parts : List (List ℕ)
-  parts = hireRun (length buffer) s .parts
+  parts = runSays true [] (length buffer) s .parts
 
   pub buffer-left : left ≡ sets buffer 0 (joined parts)
   buffer-left = ap (λ (v : Recorded). v .out) e
@@ -42,7 +41,7 @@ module _ (s buffer left : List ℕ) (r : BenchRun) (e : recorded r left ≡ runL
       let put : Put buffer 0 (joined parts) (r .written) left = record { next = omega arith; bytes = buffer-left } in
       put-front put ∙ take-all (length buffer) (joined parts) fits
 
-  says : runAnswer (r .answer) ≡ hireRun (length buffer) s .answer
+  says : runAnswer (r .answer) ≡ runSays true [] (length buffer) s .answer
   says = ap (λ (v : Recorded). v .answer) e
 
   -- where a number ended the run, its line
@@ -53,7 +52,7 @@ module _ (s buffer left : List ℕ) (r : BenchRun) (e : recorded r left ≡ runL
   unfolding hireText
   text-size =
       let w : r .written ≡ length (joined parts) = ap (λ (v : Recorded). v .written) e in
-      let end = hireRun (length buffer) s .answer in
+      let end = runSays true [] (length buffer) s .answer in
       omega (arith, length-append (hexLines parts) (stopLine end), lines-length parts, ap (λ a. length (stopLine a)) says)
 
   -- it stands at the front of a line of 12 bytes
@@ -65,10 +64,10 @@ module _ (s buffer left : List ℕ) (r : BenchRun) (e : recorded r left ≡ runL
     stop-line = put-front p ∙ take-all (length line₀) stop (omega (arith, stop-length (runAnswer (r .answer))))
 
     -- there is no room for it, or for the lines before it
-    pub no-room : (out : List ℕ) → length out < size → hireWritten (Refused SmallBuffer) out ≡ putWhole out 0 (hireText (length buffer) s)
+    pub no-room : (out : List ℕ) → length out < size → countWritten (Refused SmallBuffer) out ≡ putWhole out 0 (hireText (length buffer) s)
     no-room out h = whole-small out 0 (hireText (length buffer) s) (omega (arith, text-size, whole-line))
 
-    pub too-few : (out : List ℕ) → size ≤ length out → (length out - size) / 3 < r .written → hireWritten (Refused SmallBuffer) out ≡ putWhole out 0 (hireText (length buffer) s)
+    pub too-few : (out : List ℕ) → size ≤ length out → (length out - size) / 3 < r .written → countWritten (Refused SmallBuffer) out ≡ putWhole out 0 (hireText (length buffer) s)
     too-few out h k = whole-small out 0 (hireText (length buffer) s) (omega (arith, text-size, whole-line))
 
     -- the lines of whatever parts the record's bytes are, and this line after them
@@ -80,13 +79,13 @@ module _ (s buffer left : List ℕ) (r : BenchRun) (e : recorded r left ≡ runL
     text-put lines q = rw (← says) (put-then (lines parts (run-parts true [] (length buffer) s) parts-stand) (rw stop-line at q))
 
     pub all-written : {out out₁ out₂ : List ℕ} {n m : ℕ} → size ≤ length out → r .written ≤ (length out - size) / 3 → Lines out n out₁ →
-        Put out₁ n (take size line) m out₂ → hireWritten (Written m) out₂ ≡ putWhole out 0 (hireText (length buffer) s)
+        Put out₁ n (take size line) m out₂ → countWritten (Is m) out₂ ≡ putWhole out 0 (hireText (length buffer) s)
     all-written h k lines q = whole-stored (omega arith) (omega (arith, text-size, whole-line)) (text-put lines q)
 
 -- what a text that was written tells the caller: it is inside the buffer, whose length is as it was
-pub text-inside : (out left text : List ℕ) {r : HireAnswer} {m : ℕ} → hireWritten r left ≡ putWhole out 0 text → r ≡ Written m → (m ≤ length left) × (length left ≡ length out)
+pub text-inside : (out left text : List ℕ) {r : Count} {m : ℕ} → countWritten r left ≡ putWhole out 0 text → r ≡ Is m → (m ≤ length left) × (length left ≡ length out)
 text-inside out left text {r} {m} e d =
-    let q : hireWritten (Written m) left ≡ putWhole out 0 text = rw d at e in
-    let told = whole-told out 0 text (sym (ap (λ (w : Filled). w .answer) q)) in
-    let same : length left ≡ length out = ap (λ (w : Filled). length (w .out)) q ∙ whole-length out 0 text in
+    let q : countWritten (Is m) left ≡ putWhole out 0 text = rw d at e in
+    let told = whole-told out 0 text (sym (ap (λ (w : Written). w .answer) q)) in
+    let same : length left ≡ length out = ap (λ (w : Written). length (w .out)) q ∙ whole-length out 0 text in
     (omega (arith, told .0, told .1), same)

@@ -1,12 +1,12 @@
 -- Laws of lines: what their writers go by, that each is one line, and how long they are.
 use mathlib.Core.Path.{_≡_, refl}
-use mathlib.Core.List.{List, [], _∷_, _++_}
+use mathlib.Core.List.{List, [], _∷_, _++_, map}
 use Prim.Native.Nat.{ℕ, suc, _+_, _*_, _≤_, _<_}
 use native.Mathlib.Numerals.{add-one}
 use native.Mathlib.Omega.{arith}
 use lib.ListN.{length, drop, getD, length-append, drop-of-length-le}
 use lib.Seq.{drop-cons}
-use Rattle.wire.specs.Answer.{Answer, result, refused}
+use Rattle.wire.specs.Answer.{Answer, result, refused, ifResult}
 use Rattle.wire.specs.Put.{Put}
 use Rattle.wire.specs.Text.{joined}
 use Rattle.wire.proofs.PutLaws.{put-rest, put-nil}
@@ -15,7 +15,14 @@ use Rattle.hex.specs.Digits.{hexByte}
 use Rattle.hex.proofs.DigitLaws.{digit-between, digits-all}
 use Rattle.query.specs.Query.{decimal}
 use Rattle.query.proofs.QueryLaws.{query-length, query-short}
-use Rattle.hire_text.specs.Hire.{separator, hexLine, hexLines, refusedLine, stopLine}
+use Rattle.hire_text.specs.Hire.{separator, hexLine, refusedLine}
+
+-- a line for each part, and one where a number ended the run
+abbrev pub hexLines : List (List ℕ) → List ℕ
+hexLines ps = joined (map hexLine ps)
+
+abbrev pub stopLine : Answer (Unit {0}) → List ℕ
+stopLine a = ifResult a refusedLine (λ u. [])
 
 -- what stands before the byte at a position, and after the last
 pub separator-more : (s : List ℕ) (i : ℕ) → i < length s → separator (drop i s) ≡ 32

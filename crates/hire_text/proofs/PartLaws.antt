@@ -17,8 +17,9 @@ use Rattle.group.proofs.AtLaws.{NumberAt}
 use Rattle.value.specs.Values.{Value, valueFormat, partFormat}
 use Rattle.value.proofs.ValueLaws.{value-some}
 use Rattle.value.proofs.StepLaws.{ValueHere}
-use Rattle.hire_text.specs.Hire.{hexLine, hexLines}
+use Rattle.hire_text.specs.Hire.{hexLine}
 use Rattle.hire_text.specs.Steps.{IsPart, AreParts, PartEnd}
+use Rattle.hire_text.proofs.LineLaws.{hexLines}
 
 -- ---- the search for the end of the part at a position of s
 

@@ -7,7 +7,7 @@ use native.Mathlib.Omega.{arith}
 use lib.Dec.{ltb}
 use lib.ListN.{length, length-append}
 use borrow.Author.Tests.{ltb-false}
-use Rattle.wire.specs.Answer.{Answer, result, refused}
+use Rattle.wire.specs.Answer.{Answer, result, refused, ifResult}
 use Rattle.wire.specs.Text.{joined}
 use Rattle.wire.proofs.Cases.{by-test}
 use Rattle.wire.proofs.UnlessLaws.{unless-by}
@@ -18,15 +18,15 @@ use Rattle.value.proofs.RecordLaws.{ValuesFit, part-back}
 use Rattle.reply_lines.specs.Decode.{replyLines}
 use Rattle.reply_values.specs.Values.{valuesOf, answerOrder}
 use Rattle.reply_values.specs.Learn.{lengthsAfter}
-use Rattle.reply_values.specs.Read.{reading}
 use Rattle.reply_values.proofs.WalkLaws.{values-fit}
 use Rattle.reply_values.proofs.ReadLaws.{reply-known}
 use Rattle.client_session.specs.Session.{Client}
 use Rattle.client_session.specs.Call.{Progress, valueCount, ClientSaid}
 use Rattle.client_session.specs.Piece.{replyIn}
-use Rattle.client_session.specs.Finish.{question, givesValues, finishSays}
+use Rattle.client_session.specs.Finish.{givesValues, finishSays}
+use Rattle.client_session.proofs.FinishLaws.{readFor}
 use Rattle.bench.specs.Script.{Query, script}
-use Rattle.bench.specs.Run.{valuesRoom, Bench, initialised, startSays, asking, partOf, finished, part, Run, ifResult, ended, after, asked, runSays}
+use Rattle.bench.specs.Run.{valuesRoom, Bench, initialised, startSays, asking, partOf, finished, part, Run, ended, after, asked, runSays}
 use Rattle.bench.specs.Steps.{standing}
 use Rattle.hire_text.specs.Steps.{IsPart, AreParts}
 
@@ -46,7 +46,7 @@ unfolding answerOrder
 ordered-part vs h = λ rest. (vs, part-back vs rest h)
 
 -- an id has three digits, so ECU+1 is at most 4,096
-reply-part : (room : ℕ) (c : Client) (reply : List ℕ) → SaysPart (givesValues room c (reading (question c) reply))
+reply-part : (room : ℕ) (c : Client) (reply : List ℕ) → SaysPart (givesValues room c (readFor c reply))
 reply-part room c reply =
     let ls = replyLines (c .server .framing) reply in
     let lengths = lengthsAfter (c .query .several) (c .query .pids) (c .server .«pid_lengths») ls in

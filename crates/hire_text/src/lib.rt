@@ -3,23 +3,20 @@ use bench::RunAnswer;
 use group::GroupRead;
 use value::ValueCursor;
 use value::ValueStep;
+use wire::Count;
 use wire::Refusal;
 ghost use mathlib.Core.Path.{_≡_};
-ghost use mathlib.Core.List.{List};
+ghost use mathlib.Core.Bool.{true};
+ghost use mathlib.Core.List.{List, [], map};
 ghost use Prim.Native.Nat.{ℕ};
 ghost use lib.ListN.{length, drop};
 ghost use lib.Seq.{sets};
-ghost use Rattle.wire.specs.Put.{Put, putWhole};
-ghost use Rattle.bench.specs.Run.{runAnswer};
+ghost use Rattle.wire.specs.Answer.{ifResult};
+ghost use Rattle.wire.specs.Put.{Put, countWritten, putWhole};
 ghost use Rattle.wire.specs.Text.{joined};
-ghost use Rattle.hire_text.specs.Hire.{separator, hexLine, hexLines, refusedLine, stopLine, hireRun, hireText, hireWritten};
+ghost use Rattle.bench.specs.Run.{runAnswer, runSays};
+ghost use Rattle.hire_text.specs.Hire.{separator, hexLine, refusedLine, hireText};
 ghost use Rattle.hire_text.specs.Steps.{AreParts, PartEnd};
-
-pub enum HireAnswer {
-    // So many bytes of the text.
-    Written(usize),
-    Refused(Refusal),
-}
 
 // What stands in a line before the byte at i, or after the last.
 fn separator(bytes: &[u8], i: usize) -> u8
@@ -75,7 +72,7 @@ fn part_end(bytes: &[u8], at: usize) -> usize
 
 // A line for each part of a record, from position at on.
 fn put_parts(out: &mut [u8], at: usize, bytes: &[u8]) -> usize
-    ensures { λ r. ⌜ ((parts : List (List ℕ)) → AreParts parts → now (bytes .entry) ≡ joined parts → Put (now (out .entry)) at (hexLines parts) r (now (out .exit))) ⌝ }
+    ensures { λ r. ⌜ ((parts : List (List ℕ)) → AreParts parts → now (bytes .entry) ≡ joined parts → Put (now (out .entry)) at (joined (map hexLine parts)) r (now (out .exit))) ⌝ }
 {
     let mut at = at;
     let mut start: usize = 0;
@@ -98,7 +95,7 @@ fn put_refused(out: &mut [u8], at: usize, number: u8) -> usize
 
 // The line that tells the number that ended a run, at the front of out; nothing where none did.
 fn put_stop(out: &mut [u8], answer: RunAnswer) -> usize
-    ensures { λ r. ⌜ Put (now (out .entry)) 0 (stopLine (runAnswer answer)) r (now (out .exit)) ⌝ }
+    ensures { λ r. ⌜ Put (now (out .entry)) 0 (ifResult (runAnswer answer) refusedLine (λ u. [])) r (now (out .exit)) ⌝ }
 {
     match answer {
         RunAnswer::Complete => 0,
@@ -106,11 +103,12 @@ fn put_stop(out: &mut [u8], answer: RunAnswer) -> usize
     }
 }
 
-// Runs a script with repeat on and no piece lengths, and writes its record's parts to out, a line each, and the number that ended the run: 6 where out is shorter.
+// Runs a script with repeat on and no piece lengths, and writes its record's parts to out, a line each, and the number that ended the run; how many bytes that is, or
+// 6 where out is shorter.
 // The last line is written first elsewhere, and a part's line has three characters for each byte, so the size is known before anything is written to out.
-pub fn hire_text(script: &[u8], buffer: &mut [u8], out: &mut [u8]) -> HireAnswer
-    ensures { λ r. ⌜ hireWritten r (now (out .exit)) ≡ putWhole (now (out .entry)) 0 (hireText (length (now (buffer .entry))) (now (script .entry))) ⌝ }
-    ensures { λ r. ⌜ now (buffer .exit) ≡ sets (now (buffer .entry)) 0 (joined (hireRun (length (now (buffer .entry))) (now (script .entry)) .parts)) ⌝ }
+pub fn hire_text(script: &[u8], buffer: &mut [u8], out: &mut [u8]) -> Count
+    ensures { λ r. ⌜ countWritten r (now (out .exit)) ≡ putWhole (now (out .entry)) 0 (hireText (length (now (buffer .entry))) (now (script .entry))) ⌝ }
+    ensures { λ r. ⌜ now (buffer .exit) ≡ sets (now (buffer .entry)) 0 (joined (runSays true [] (length (now (buffer .entry))) (now (script .entry)) .parts)) ⌝ }
 {
     let run = bench::run(script, b"", true, buffer);
     let end = run.written;
@@ -118,11 +116,11 @@ pub fn hire_text(script: &[u8], buffer: &mut [u8], out: &mut [u8]) -> HireAnswer
     let mut line = [0u8; 12];
     let size = put_stop(&mut line, answer);
     if out.len() < size {
-        return HireAnswer::Refused(Refusal::SmallBuffer);
+        return Count::Refused(Refusal::SmallBuffer);
     }
     if (out.len() - size) / 3 < end {
-        return HireAnswer::Refused(Refusal::SmallBuffer);
+        return Count::Refused(Refusal::SmallBuffer);
     }
     let last = put_parts(out, 0, &buffer[..end]);
-    HireAnswer::Written(wire::put(out, last, &line[..size]))
+    Count::Is(wire::put(out, last, &line[..size]))
 }

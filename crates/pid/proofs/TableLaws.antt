@@ -1,4 +1,4 @@
--- Laws of the table of SAE J1979: what it has at each PID, by one computed test over all of them.
+-- Laws of the table of lengths: what it has at each PID, by one computed test over all of them.
 use mathlib.Core.Path.{_≡_, refl, ap, _∙_}
 use mathlib.Core.Bool.{Bool, true, false, _||_}
 use mathlib.Core.Logic.{_⊎_, inl, inr, ⊎-elim}
@@ -83,6 +83,6 @@ marked-back : (o : Option ℕ) → ((n : ℕ) → o ≡ some n → n < unknown) 
 marked-back none h = refl
 marked-back (some n) h = rw (lt-ltb n unknown (h n refl))
 
--- a PID's length in the table is that of the document
+-- a PID's length in the table is that of its row
 pub table-right : (p : ℕ) → p < 256 → lengthIn mode01Lengths p ≡ j1979 p
 table-right p h = rw (table-entry p h) (marked-back (j1979 p) (λ n e. omega (arith, known-small p n h e)))

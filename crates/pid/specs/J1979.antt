@@ -1,11 +1,12 @@
--- SAE J1979 (ISO 15031-5), mode 01: how many data bytes each PID has, by what the PIDs are.
+-- SAE J1979 (ISO 15031-5), mode 01: how many data bytes a PID has, by what the PIDs are, for those of document 01's table: 00 to 65, 80, A0, C0. The standard has
+-- further PIDs (66, 67, A6 and others); their lengths are unknown here, as in document 01.
 use mathlib.Core.Bool.{cond, _&&_}
 use mathlib.Core.List.{List, [], _∷_}
 use mathlib.Core.Option.{Option, none, some}
 use Prim.Native.Nat.{ℕ}
 use lib.Dec.{leb}
 
--- A row of the document: the PIDs from first to last, of size data bytes each.
+-- A row: the PIDs from first to last, of size data bytes each.
 pub record Row : Type 0 where
   pub first : ℕ
   pub last : ℕ
@@ -79,6 +80,6 @@ abbrev sizeIn : ℕ → List Row → Option ℕ
 sizeIn p [] = none
 sizeIn p (r ∷ rs) = cond (leb (r .first) p && leb p (r .last)) (some (r .size)) (sizeIn p rs)
 
--- the data bytes of a PID, none where the document has no such PID
+-- the data bytes of a PID, none where no row has it
 unfoldable pub j1979 : ℕ → Option ℕ
 j1979 p = sizeIn p rows

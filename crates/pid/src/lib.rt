@@ -1,4 +1,4 @@
-// PIDs and the data lengths of SAE J1979 (pid.rs of the Rust).
+// PIDs and their data lengths: document 01's cut of SAE J1979 (pid.rs of the Rust).
 ghost use mathlib.Core.Path.{_≡_};
 ghost use Rattle.pid.specs.Lengths.{mode01Lengths, lengthIn, dataLength};
 
@@ -11,7 +11,7 @@ pub type PidDataLengths = [u16; 256];
 // The mark of an unknown length. A learned length may be 0, and no length passes 255.
 pub const UNKNOWN: u16 = 256;
 
-// Data bytes of each mode 01 PID, without 41 and the PID. Source: SAE J1979 / ISO 15031-5.
+// Data bytes of the mode 01 PIDs 00 to 65, 80, A0 and C0, without 41 and the PID, by SAE J1979 / ISO 15031-5; the standard's further PIDs are unknown here.
 pub const MODE01_PID_DATA_LENGTHS: PidDataLengths = [
     // 00
     4,

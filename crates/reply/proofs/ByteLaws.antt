@@ -9,12 +9,12 @@ use Rattle.wire.specs.Text.{ascii, any, has, high}
 use Rattle.wire.proofs.Cases.{by-test, from-no, unless, below, at-below}
 use Rattle.wire.proofs.TextLaws.{any-append, any-none}
 use Rattle.client_state.specs.Settings.{lineEnding}
-use Rattle.hex.specs.Digits.{hexDigit, hexByte, hexId}
+use Rattle.hex.specs.Digits.{hexDigit, hexDigits, hexByte}
 use Rattle.wire.proofs.All.{All, all-append}
 use Rattle.hex.proofs.DigitLaws.{digits-all}
 use Rattle.line_list.specs.Lines.{Line}
 use Rattle.reply.specs.Shape.{chipReply}
-use Rattle.reply.specs.Reply.{ecuId, spaceIf, furtherHex, dataHex, header, lineText, lineTexts, replyText}
+use Rattle.reply.specs.Reply.{ecuId, spaceIf, furtherHex, dataHex, header, lineText, replyText}
 
 -- all that the chip sends for some lines of text but the prompt
 abbrev chipBody : Bool → List (List ℕ) → List ℕ
@@ -28,11 +28,13 @@ chip-prompt linefeeds (l ∷ ls) =
 
 -- a reply without its prompt
 unfoldable pub replyBody : Bool → Bool → Bool → List Line → List ℕ
-replyBody linefeeds spaces headers ls = chipBody linefeeds (lineTexts spaces headers ls)
+replyBody linefeeds spaces headers [] = chipBody linefeeds (ascii "NO DATA" ∷ [])
+replyBody linefeeds spaces headers (l ∷ ls) = chipBody linefeeds (map (lineText spaces headers) (l ∷ ls))
 
 pub reply-prompt : (linefeeds spaces headers : Bool) (ls : List Line) → replyText linefeeds spaces headers ls ≡ replyBody linefeeds spaces headers ls ++ (62 ∷ [])
 unfolding replyText replyBody
-reply-prompt linefeeds spaces headers ls = chip-prompt linefeeds (lineTexts spaces headers ls)
+reply-prompt linefeeds spaces headers [] = chip-prompt linefeeds (ascii "NO DATA" ∷ [])
+reply-prompt linefeeds spaces headers (l ∷ ls) = chip-prompt linefeeds (map (lineText spaces headers) (l ∷ ls))
 
 -- What holds of the sixteen digits, and of a space if spaces are on, holds of every byte of a line; and what holds of the endings and of `NO DATA`
 -- besides holds of every byte before the prompt.
@@ -50,7 +52,7 @@ module _ (P : ℕ → Type 0) (digit : (d : ℕ) → d < 16 → P (hexDigit d)) 
   header-all : (headers : Bool) (l : Line) → All P (cond headers (header spaces l) [])
   header-all true l =
       let size = hexByte (length (l .bytes)) in
-      all-append P (hexId (ecuId (l .ecu))) (spaceIf spaces ++ (size ++ spaceIf spaces)) (digits-all P digit 3 (ecuId (l .ecu)))
+      all-append P (hexDigits 3 (ecuId (l .ecu))) (spaceIf spaces ++ (size ++ spaceIf spaces)) (digits-all P digit 3 (ecuId (l .ecu)))
       (all-append P (spaceIf spaces) (size ++ spaceIf spaces) space
       (all-append P size (spaceIf spaces) (digits-all P digit 2 (length (l .bytes))) space))
   header-all false l = tt

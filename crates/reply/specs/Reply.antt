@@ -5,7 +5,7 @@ use mathlib.Core.List.{List, [], _∷_, _++_, map}
 use Prim.Native.Nat.{ℕ, zero, suc}
 use lib.ListN.{length}
 use Rattle.wire.specs.Text.{ascii}
-use Rattle.hex.specs.Digits.{hexByte, hexId}
+use Rattle.hex.specs.Digits.{hexDigits, hexByte}
 use Rattle.line_list.specs.Lines.{Line}
 use Rattle.reply.specs.Shape.{chipReply}
 
@@ -27,17 +27,13 @@ dataHex spaces [] = []
 dataHex spaces (b ∷ s) = hexByte b ++ furtherHex spaces s
 
 abbrev pub header : Bool → Line → List ℕ
-header spaces l = hexId (ecuId (l .ecu)) ++ (spaceIf spaces ++ (hexByte (length (l .bytes)) ++ spaceIf spaces))
+header spaces l = hexDigits 3 (ecuId (l .ecu)) ++ (spaceIf spaces ++ (hexByte (length (l .bytes)) ++ spaceIf spaces))
 
 -- a line as text, by spaces and headers
 unfoldable pub lineText : Bool → Bool → Line → List ℕ
 lineText spaces headers l = cond headers (header spaces l) [] ++ dataHex spaces (l .bytes)
 
--- the texts of a reply's lines: "No lines: `NO DATA`"
-abbrev pub lineTexts : Bool → Bool → List Line → List (List ℕ)
-lineTexts spaces headers [] = ascii "NO DATA" ∷ []
-lineTexts spaces headers (l ∷ ls) = map (lineText spaces headers) (l ∷ ls)
-
--- the reply, by linefeeds, spaces and headers
+-- the reply, by linefeeds, spaces and headers: "No lines: `NO DATA`"
 unfoldable pub replyText : Bool → Bool → Bool → List Line → List ℕ
-replyText linefeeds spaces headers ls = chipReply linefeeds (lineTexts spaces headers ls)
+replyText linefeeds spaces headers [] = chipReply linefeeds (ascii "NO DATA" ∷ [])
+replyText linefeeds spaces headers (l ∷ ls) = chipReply linefeeds (map (lineText spaces headers) (l ∷ ls))

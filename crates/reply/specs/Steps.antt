@@ -4,13 +4,11 @@ use mathlib.Core.Bool.{Bool, cond}
 use mathlib.Core.List.{List, map}
 use Prim.Native.Nat.{ℕ, _+_, _-_, _*_, _≤_}
 use lib.ListN.{length}
-use Rattle.wire.specs.Answer.{Answer, result, refused, number}
+use Rattle.wire.specs.Answer.{Answer, result, refused}
 use Rattle.group.specs.Group.{Read, got, failed}
 use Rattle.line_list.specs.Lines.{Line, lineList}
 use Rattle.reply.specs.Shape.{chipReply}
 use Rattle.reply.specs.Reply.{spaceIf, lineText, replyText}
-use Rattle.reply.specs.declared.ReplySize.{ReplySize}
-use Rattle.reply.specs.declared.ReplySize.the-variants as size
 
 -- how long a line's header is, if on, and the data of a line of n bytes
 abbrev pub headerSize : Bool → Bool → ℕ
@@ -20,10 +18,6 @@ abbrev pub dataSize : Bool → ℕ → ℕ
 dataSize spaces n = (2 + length (spaceIf spaces)) * n - length (spaceIf spaces)
 
 -- the number of bytes that the reply has, by which 6 is decided, or 5
-abbrev pub sizeAnswer : ReplySize → Answer ℕ
-sizeAnswer (size.Size n) = result n
-sizeAnswer (size.Refused r) = refused (number r)
-
 abbrev pub sizeWith : Bool → Bool → Bool → Read (List Line) → Answer ℕ
 sizeWith linefeeds spaces headers (failed j) = refused 5
 sizeWith linefeeds spaces headers (got ls rest) = result (length (replyText linefeeds spaces headers ls))

@@ -1,35 +1,23 @@
 // What the server sends as a reply: the chip's shape, and line lists written in it (reply, push_header and push_hex of the Rust's server_session.rs).
 use line_list::LineCursor;
 use line_list::LineStep;
+use wire::Count;
 use wire::Refusal;
 ghost use mathlib.Core.Path.{_≡_};
 ghost use mathlib.Core.Bool.{true, false, cond};
 ghost use mathlib.Core.List.{List, [], _∷_, _++_, map};
 ghost use Prim.Native.Nat.{ℕ, _+_, _≤_};
 ghost use lib.ListN.{length, drop};
-ghost use Rattle.wire.specs.Put.{Put};
-ghost use Rattle.hex.specs.Digits.{hexByte, hexId};
+ghost use Rattle.wire.specs.Answer.{countAnswer};
+ghost use Rattle.wire.specs.Put.{Put, countWritten};
+ghost use Rattle.hex.specs.Digits.{hexDigits, hexByte};
 ghost use Rattle.group.specs.Group.{got};
 ghost use Rattle.client_state.specs.Settings.{lineEnding};
 ghost use Rattle.line_list.specs.Lines.{Line, line, lineList};
 ghost use Rattle.reply.specs.Shape.{chipReply};
 ghost use Rattle.reply.specs.Reply.{ecuId, spaceIf, furtherHex, lineText};
-ghost use Rattle.reply.specs.Answers.{replyWritten, replied};
-ghost use Rattle.reply.specs.Steps.{headerSize, dataSize, sizeAnswer, replySize, LinesFit};
-
-pub enum ReplyAnswer {
-    // So many bytes stand at the front of out.
-    Written(usize),
-    // 5: not a line list; 6: the reply is longer than out.
-    Refused(Refusal),
-}
-
-enum ReplySize {
-    // The reply has so many bytes.
-    Size(usize),
-    // 5: not a line list.
-    Refused(Refusal),
-}
+ghost use Rattle.reply.specs.Answers.{replied};
+ghost use Rattle.reply.specs.Steps.{headerSize, dataSize, replySize, LinesFit};
 
 // What follows the last line of a reply: an empty line and the prompt.
 pub fn put_prompt(out: &mut [u8], at: usize, linefeeds: bool) -> usize
@@ -77,7 +65,7 @@ fn put_header(
     spaces: bool,
     headers: bool,
 ) -> usize
-    ensures { λ r. ⌜ Put (now (out .entry)) at (cond headers (hexId (ecuId ecu) ++ (spaceIf spaces ++ (hexByte size ++ spaceIf spaces))) []) r (now (out .exit)) ⌝ }
+    ensures { λ r. ⌜ Put (now (out .entry)) at (cond headers (hexDigits 3 (ecuId ecu) ++ (spaceIf spaces ++ (hexByte size ++ spaceIf spaces))) []) r (now (out .exit)) ⌝ }
 {
     if headers {
         let at = hex::put_hex_id(out, at, ecu_id(ecu));
@@ -191,16 +179,16 @@ fn line_size(n: usize, linefeeds: bool, spaces: bool, headers: bool) -> usize
     header_size(spaces, headers) + data_size(n, spaces) + ending_size(linefeeds)
 }
 
-// How long the reply to a line list is: one walk checks the list and adds up its lines.
-fn reply_size(list: &[u8], linefeeds: bool, spaces: bool, headers: bool) -> ReplySize
-    ensures { λ r. ⌜ sizeAnswer r ≡ replySize linefeeds spaces headers (now (list .entry)) ⌝ }
+// How long the reply to a line list is, or 5: one walk checks the list and adds up its lines.
+fn reply_size(list: &[u8], linefeeds: bool, spaces: bool, headers: bool) -> Count
+    ensures { λ r. ⌜ countAnswer r ≡ replySize linefeeds spaces headers (now (list .entry)) ⌝ }
 {
     let ending = ending_size(linefeeds);
     // An empty line and the prompt.
     let mut size = ending + 1;
     if list.len() == 0 {
         // `NO DATA`.
-        return ReplySize::Size(7 + ending + size);
+        return Count::Is(7 + ending + size);
     }
     let mut cursor = LineCursor { at: 0 };
     let mut lines: usize = 0;
@@ -212,15 +200,15 @@ fn reply_size(list: &[u8], linefeeds: bool, spaces: bool, headers: bool) -> Repl
                 next,
             } => {
                 if lines == 64 {
-                    return ReplySize::Refused(Refusal::Malformed);
+                    return Count::Refused(Refusal::Malformed);
                 }
                 let end = next.at;
                 size = size + line_size(end - start, linefeeds, spaces, headers);
                 cursor = next;
                 lines += 1;
             }
-            LineStep::End => return ReplySize::Size(size),
-            LineStep::Refused(_) => return ReplySize::Refused(Refusal::Malformed),
+            LineStep::End => return Count::Is(size),
+            LineStep::Refused(_) => return Count::Refused(Refusal::Malformed),
         }
     }
 }
@@ -248,26 +236,27 @@ fn write_lines(list: &[u8], linefeeds: bool, spaces: bool, headers: bool, out: &
     }
 }
 
-// The reply to a line list at the front of out, which is left as it was where it is too small.
+// The reply to a line list at the front of out, and how many bytes it has: 5 where it is no line list, 6 where the reply is longer than out, which is then as it
+// was.
 pub fn write_reply(
     list: &[u8],
     linefeeds: bool,
     spaces: bool,
     headers: bool,
     out: &mut [u8],
-) -> ReplyAnswer
-    ensures { λ r. ⌜ replyWritten r (now (out .exit)) ≡ replied linefeeds spaces headers (now (list .entry)) (now (out .entry)) ⌝ }
+) -> Count
+    ensures { λ r. ⌜ countWritten r (now (out .exit)) ≡ replied linefeeds spaces headers (now (list .entry)) (now (out .entry)) ⌝ }
 {
     match reply_size(list, linefeeds, spaces, headers) {
-        ReplySize::Refused(refusal) => ReplyAnswer::Refused(refusal),
-        ReplySize::Size(size) => {
+        Count::Refused(refusal) => Count::Refused(refusal),
+        Count::Is(size) => {
             if out.len() < size {
-                return ReplyAnswer::Refused(Refusal::SmallBuffer);
+                return Count::Refused(Refusal::SmallBuffer);
             }
             if 0 < list.len() {
-                return ReplyAnswer::Written(write_lines(list, linefeeds, spaces, headers, out));
+                return Count::Is(write_lines(list, linefeeds, spaces, headers, out));
             }
-            ReplyAnswer::Written(put_text_reply(out, 0, b"NO DATA", linefeeds))
+            Count::Is(put_text_reply(out, 0, b"NO DATA", linefeeds))
         }
     }
 }

@@ -9,7 +9,7 @@ use lib.ListN.{length}
 use borrow.Author.Tests.{le-leb, lt-leb, lt-ltb, ne-eqb}
 use Rattle.wire.specs.Text.{has, isSpace}
 use Rattle.wire.proofs.Cases.{at-below}
-use Rattle.hex.specs.Digits.{hexDigit, hexByte, hexId, hexBytes}
+use Rattle.hex.specs.Digits.{hexDigit, hexDigits, hexByte, hexBytes}
 use Rattle.wire.proofs.All.{All, all-append}
 use Rattle.hex.proofs.DigitLaws.{digit-between, digits-all, bytes-all, bytes-back, id-back}
 use Rattle.line_list.specs.Lines.{line}
@@ -80,13 +80,13 @@ digit-plain d h = (omega (arith, digit-between d h .0), λ e. prompt (hexDigit d
     prompt : (c : ℕ) → c ≡ 62 → T (not (eqb c 62)) → ⊥
     prompt c e t = rw e at t
 
-pub framed-plain : (n k : ℕ) (d : List ℕ) → All Plain (hexId n ++ (hexByte k ++ hexBytes d))
+pub framed-plain : (n k : ℕ) (d : List ℕ) → All Plain (hexDigits 3 n ++ (hexByte k ++ hexBytes d))
 framed-plain n k d =
-    all-append Plain (hexId n) (hexByte k ++ hexBytes d) (digits-all Plain digit-plain 3 n)
+    all-append Plain (hexDigits 3 n) (hexByte k ++ hexBytes d) (digits-all Plain digit-plain 3 n)
     (all-append Plain (hexByte k) (hexBytes d) (digits-all Plain digit-plain 2 k) (bytes-all Plain digit-plain d))
 
 -- an id, a length byte, whatever it says, and data
-pub framed-back : (n k : ℕ) (d : List ℕ) → n < 4096 → All (λ b. b < 256) d → textLine true (hexId n ++ (hexByte k ++ hexBytes d)) ≡ line (suc n) d
+pub framed-back : (n k : ℕ) (d : List ℕ) → n < 4096 → All (λ b. b < 256) d → textLine true (hexDigits 3 n ++ (hexByte k ++ hexBytes d)) ≡ line (suc n) d
 framed-back n k d h a =
-    line-framed (hexId n ++ (hexByte k ++ hexBytes d)) (hexId n ++ hexByte k) (hexBytes d) (plain-unspaced _ (framed-plain n k d)) refl
+    line-framed (hexDigits 3 n ++ (hexByte k ++ hexBytes d)) (hexDigits 3 n ++ hexByte k) (hexBytes d) (plain-unspaced _ (framed-plain n k d)) refl
     ∙ rw (id-back n h, bytes-back d a)

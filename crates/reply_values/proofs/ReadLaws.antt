@@ -15,8 +15,10 @@ use Rattle.reply_lines.specs.Lines.{textLines}
 use Rattle.reply_lines.specs.Decode.{textLine, replyLines}
 use Rattle.reply_lines.proofs.DecodeLaws.{line-ecu}
 use Rattle.reply_values.specs.Values.{valuesOf, answerOrder}
-use Rattle.reply_values.specs.Learn.{lengthsAfter, learnCounts, givenPids}
-use Rattle.reply_values.specs.Read.{Asked, Reading, reading, ReadServed, readReply}
+use Rattle.server_state.specs.declared.FeatureSupport.{FeatureSupport}
+use Rattle.server_state.specs.declared.ServerState.{ServerState}
+use Rattle.reply_values.specs.Learn.{lengthsAfter, learnCounts, multiAfter}
+use Rattle.reply_values.specs.Read.{Reading, reading, ReadServed, readReply}
 use Rattle.reply_values.specs.Steps.{valuesIn}
 use Rattle.reply_values.proofs.InLaws.{values-in}
 use Rattle.reply_values.proofs.SizeLaws.{reply-size}
@@ -71,65 +73,83 @@ module _ (framing : Bool) (text lengths : List ℕ) (short : length text ≤ 409
   stored-back = stored-front ∙ ap valuesBytes (sym stored-values)
 
 -- what a number comes to, and what is read where none applies
-abbrev unreadFor : Asked → ℕ → List ℕ → ReadServed
-unreadFor q n out = record { answer = refused n; lengths = q .lengths; counts = q .counts; out = out }
+abbrev unreadFor : ServerState → ℕ → List ℕ → ReadServed
+unreadFor s n out = record { answer = refused n; written = 0; server = s; out = out }
 
 abbrev wholeOf : Reading → List ℕ → ReadServed
 wholeOf r out =
     let text = valuesBytes (r .values) in
-    record {
-      answer = result (record { count = length (r .values); written = length text; given = r .given });
-      lengths = r .lengths;
-      counts = r .counts;
-      out = sets out 0 text;
-    }
+    record { answer = result (length (r .values)); written = length text; server = r .server; out = sets out 0 text }
 
--- a reply that is too long
-pub read-long : (q : Asked) (reply out : List ℕ) → 4096 < length reply → readReply q reply out ≡ unreadFor q 8 out
-unfolding readReply unless
-read-long q reply out h = rw (lt-ltb 4096 (length reply) h)
-
--- any other: its values are longer than the buffer, or they fit
-module _ (q : Asked) (reply out : List ℕ) (short : length reply ≤ 4096) where
-  pub read-full : length out < length (valuesBytes (reading q reply .values)) → readReply q reply out ≡ unreadFor q 6 out
+module _ (s : ServerState) (pids : List ℕ) (several : Bool) where
+  -- a reply that is too long
+  pub read-long : (reply out : List ℕ) → 4096 < length reply → readReply s pids several reply out ≡ unreadFor s 8 out
   unfolding readReply unless
-  read-full h = rw (le-ltb 4096 (length reply) short, lt-ltb (length out) (length (valuesBytes (reading q reply .values))) h)
+  read-long reply out h = rw (lt-ltb 4096 (length reply) h)
 
-  pub read-fits : length (valuesBytes (reading q reply .values)) ≤ length out → readReply q reply out ≡ wholeOf (reading q reply) out
-  unfolding readReply unless
-  read-fits h = rw (le-ltb 4096 (length reply) short, le-ltb (length out) (length (valuesBytes (reading q reply .values))) h)
+  -- any other: its values are longer than the buffer, or they fit
+  module _ (reply out : List ℕ) (short : length reply ≤ 4096) where
+    abbrev text : List ℕ
+    text = valuesBytes (reading s pids several reply .values)
 
--- what values teach, with the lengths that they were found by
-abbrev readingOf : Asked → List ℕ → List Value → Reading
-readingOf q lengths vs = record { values = answerOrder vs; lengths = lengths; counts = learnCounts (q .framing) 0 (q .counts) vs; given = givenPids (q .pids) vs }
+    pub read-full : length out < length text → readReply s pids several reply out ≡ unreadFor s 6 out
+    unfolding readReply unless
+    read-full h = rw (le-ltb 4096 (length reply) short, lt-ltb (length out) (length text) h)
 
--- the answer to a query, by what the store holds
-module _ (q : Asked) (text : List ℕ) (short : length text ≤ 4096) {after : List ℕ}
-    (learned : after ≡ lengthsAfter (q .several) (q .pids) (q .lengths) (replyLines (q .framing) text)) {store left : List ℕ} (room : 3 * length text + 3 ≤ length store)
-    {size : ℕ} (p : Put store 0 (valuesBytes (valuesOf after (replyLines (q .framing) text))) size left) where
-  abbrev found : List Value
-  found = valuesIn (take size left)
+    pub read-fits : length text ≤ length out → readReply s pids several reply out ≡ wholeOf (reading s pids several reply) out
+    unfolding readReply unless
+    read-fits h = rw (le-ltb 4096 (length reply) short, le-ltb (length out) (length text) h)
 
-  same : found ≡ valuesOf after (replyLines (q .framing) text)
-  same = stored-values (q .framing) text after short room p
+  -- what values teach, with the lengths that they were found by
+  abbrev readingOf : List ℕ → List Value → Reading
+  readingOf lengths vs = record {
+    values = answerOrder vs;
+    server = record {
+      framing = s .framing;
+      repeat = s .repeat;
+      «multi_pid» = multiAfter several pids vs (s .«multi_pid»);
+      «pid_lengths» = lengths;
+      «ecu_counts» = learnCounts (s .framing) 0 (s .«ecu_counts») vs;
+    };
+  }
 
-  found-size : size ≡ length (valuesBytes (answerOrder found))
-  found-size = stored-size (q .framing) text after short room p ∙ ap (λ vs. length (valuesBytes vs)) (sym same) ∙ sym (order-size found)
+  -- the answer to a query, by what the store holds
+  module _ (text : List ℕ) (short : length text ≤ 4096) {after : List ℕ} (learned : after ≡ lengthsAfter several pids (s .«pid_lengths») (replyLines (s .framing) text))
+      {store left : List ℕ} (room : 3 * length text + 3 ≤ length store) {size : ℕ} (p : Put store 0 (valuesBytes (valuesOf after (replyLines (s .framing) text))) size left) where
+    abbrev found : List Value
+    found = valuesIn (take size left)
 
-  read-found : reading q text ≡ readingOf q after found
-  read-found = ap (λ ls. readingOf q ls (valuesOf ls (replyLines (q .framing) text))) (sym learned) ∙ ap (readingOf q after) (sym same)
+    same : found ≡ valuesOf after (replyLines (s .framing) text)
+    same = stored-values (s .framing) text after short room p
 
-  text-size : length (valuesBytes (reading q text .values)) ≡ size
-  text-size = ap (λ (r : Reading). length (valuesBytes (r .values))) read-found ∙ sym found-size
+    found-size : size ≡ length (valuesBytes (answerOrder found))
+    found-size = stored-size (s .framing) text after short room p ∙ ap (λ vs. length (valuesBytes vs)) (sym same) ∙ sym (order-size found)
 
-  pub read-small : {out : List ℕ} → length out < size → unreadFor q 6 out ≡ readReply q text out
-  read-small {out} h = sym (read-full q text out short (omega (arith, text-size)))
+    read-found : reading s pids several text ≡ readingOf after found
+    read-found = ap (λ ls. readingOf ls (valuesOf ls (replyLines (s .framing) text))) (sym learned) ∙ ap (readingOf after) (sym same)
 
-  pub read-whole : {out o₁ counts : List ℕ} {count written given : ℕ} → size ≤ length out → count ≡ length found → given ≡ givenPids (q .pids) found →
-      counts ≡ learnCounts (q .framing) 0 (q .counts) found → Put out 0 (valuesBytes (answerOrder found)) written o₁ →
-      record { answer = result (record { count = count; written = written; given = given }); lengths = after; counts = counts; out = o₁ } ≡ readReply q text out
-  read-whole {out} {o₁} {counts} {count} {written} {given} h c g l w =
-      let all : written ≡ length (valuesBytes (answerOrder found)) = let e = put-whole w (omega (arith, found-size)) in omega arith in
-      let many : count ≡ length (answerOrder found) = c ∙ sym (order-count found) in
-      (λ i. record { answer = result (record { count = many i; written = all i; given = g i }); lengths = after; counts = l i; out = w .bytes i })
-      ∙ sym (read-fits q text out short (omega (arith, text-size)) ∙ ap (λ (r : Reading). wholeOf r out) read-found)
+    text-size : length (valuesBytes (reading s pids several text .values)) ≡ size
+    text-size = ap (λ (r : Reading). length (valuesBytes (r .values))) read-found ∙ sym found-size
+
+    pub read-small : {out : List ℕ} → length out < size → unreadFor s 6 out ≡ readReply s pids several text out
+    read-small {out} h = sym (read-full text out short (omega (arith, text-size)))
+
+    pub read-whole : {out o₁ counts : List ℕ} {count written : ℕ} {multi : FeatureSupport} → size ≤ length out → count ≡ length found →
+        counts ≡ learnCounts (s .framing) 0 (s .«ecu_counts») found → multi ≡ multiAfter several pids found (s .«multi_pid») →
+        Put out 0 (valuesBytes (answerOrder found)) written o₁ →
+        record {
+          answer = result count;
+          written = written;
+          server = record { framing = s .framing; repeat = s .repeat; «multi_pid» = multi; «pid_lengths» = after; «ecu_counts» = counts };
+          out = o₁;
+        } ≡ readReply s pids several text out
+    read-whole {out} {o₁} {counts} {count} {written} {multi} h c l m w =
+        let all : written ≡ length (valuesBytes (answerOrder found)) = let e = put-whole w (omega (arith, found-size)) in omega arith in
+        let many : count ≡ length (answerOrder found) = c ∙ sym (order-count found) in
+        (λ i. record {
+          answer = result (many i);
+          written = all i;
+          server = record { framing = s .framing; repeat = s .repeat; «multi_pid» = m i; «pid_lengths» = after; «ecu_counts» = l i };
+          out = w .bytes i;
+        })
+        ∙ sym (read-fits text out short (omega (arith, text-size)) ∙ ap (λ (r : Reading). wholeOf r out) read-found)

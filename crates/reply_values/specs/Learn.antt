@@ -5,13 +5,16 @@ use mathlib.Core.Bool.{Bool, true, false, cond, not, _&&_, _||_}
 use mathlib.Core.List.{List, [], _∷_, _++_}
 use mathlib.Core.Option.{Option, none, some}
 use Prim.Native.Nat.{ℕ, suc, _+_, min}
-use lib.Dec.{eqb, leb}
+use lib.Dec.{eqb, leb, ltb}
 use lib.ListN.{length, set}
 use Rattle.wire.specs.Text.{any, has}
 use Rattle.pid.specs.Lengths.{lengthIn}
 use Rattle.line_list.specs.Lines.{Line}
 use Rattle.value.specs.Values.{Value}
 use Rattle.value.specs.Same.{ofPid}
+use Rattle.server_state.specs.declared.FeatureSupport.{FeatureSupport}
+use Rattle.server_state.specs.declared.FeatureSupport.the-variants as support
+use Rattle.server_state.specs.State.{decided}
 
 -- the data lengths that lines starting 41 and a PID show, "those over 255 skipped"
 abbrev pub shownBy : ℕ → List ℕ → List ℕ
@@ -63,3 +66,7 @@ learnCounts framing p (n ∷ ns) vs = cond (eqb n 0) (ecusGiving framing (ofPid 
 abbrev pub givenPids : List ℕ → List Value → ℕ
 givenPids [] vs = 0
 givenPids (p ∷ ps) vs = min 1 (length (ofPid p vs)) + givenPids ps vs
+
+-- multi-PID support after a reply to a query: one of `query_pids` tells of it, and is answered where two of its PIDs are given
+abbrev pub multiAfter : Bool → List ℕ → List Value → FeatureSupport → FeatureSupport
+multiAfter several pids vs m = cond several (decided m (cond (ltb (givenPids pids vs) 2) support.No support.Yes)) m

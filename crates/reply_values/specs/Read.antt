@@ -1,69 +1,49 @@
 -- What a reply gives and teaches a query. Document 01, client_session.rs: "Finishing learns in the Rust's order: one PID: length, counts, values; several
--- (`query_pids`, even of one PID): counts, values, multi-PID", of which the last is the session's.
+-- (`query_pids`, even of one PID): counts, values, multi-PID."
 use mathlib.Core.Bool.{Bool}
 use mathlib.Core.List.{List, [], _∷_}
 use Prim.Native.Nat.{ℕ}
 use lib.Dec.{ltb}
 use lib.ListN.{length}
 use lib.Seq.{sets}
-use Rattle.wire.specs.Answer.{Answer, result, refused, number, unless}
+use Rattle.wire.specs.Answer.{Answer, result, refused, countAnswer, unless}
 use Rattle.value.specs.Values.{Value, valuesBytes}
+use Rattle.server_state.specs.declared.ServerState.{ServerState}
 use Rattle.reply_lines.specs.Decode.{replyLines}
 use Rattle.reply_values.specs.Values.{valuesOf, answerOrder}
-use Rattle.reply_values.specs.Learn.{lengthsAfter, learnCounts, givenPids}
-use Rattle.reply_values.specs.declared.ReadAnswer.{ReadAnswer}
-use Rattle.reply_values.specs.declared.ReadAnswer.the-variants as answer
+use Rattle.reply_values.specs.Learn.{lengthsAfter, learnCounts, multiAfter}
 use Rattle.reply_values.specs.declared.ReplyRead.{ReplyRead}
 
--- What is asked: framing as it is, whether the query is one of `query_pids`, its PIDs, and the lengths and counts known so far.
-pub record Asked : Type 0 where
-  pub framing : Bool
-  pub several : Bool
-  pub pids : List ℕ
-  pub lengths : List ℕ
-  pub counts : List ℕ
-
--- The values of a reply in the order of an answer, the lengths and counts known after it, and how many of the queried PIDs were given.
+-- The values of a reply in the order of an answer, and what is known of the ELM327 after it.
 pub record Reading : Type 0 where
   pub values : List Value
-  pub lengths : List ℕ
-  pub counts : List ℕ
-  pub given : ℕ
+  pub server : ServerState
 
--- a length that is learned counts for this reply already
-abbrev pub reading : Asked → List ℕ → Reading
-reading q reply =
-    let ls = replyLines (q .framing) reply in
-    let lengths = lengthsAfter (q .several) (q .pids) (q .lengths) ls in
+-- a reply to a query of some PIDs, several where it is one of `query_pids`: a length that is learned counts for this reply already
+abbrev pub reading : ServerState → List ℕ → Bool → List ℕ → Reading
+reading s pids several reply =
+    let ls = replyLines (s .framing) reply in
+    let lengths = lengthsAfter several pids (s .«pid_lengths») ls in
     let vs = valuesOf lengths ls in
-    record { values = answerOrder vs; lengths = lengths; counts = learnCounts (q .framing) 0 (q .counts) vs; given = givenPids (q .pids) vs }
+    let counts = learnCounts (s .framing) 0 (s .«ecu_counts») vs in
+    let multi = multiAfter several pids vs (s .«multi_pid») in
+    record { values = answerOrder vs; server = record { framing = s .framing; repeat = s .repeat; «multi_pid» = multi; «pid_lengths» = lengths; «ecu_counts» = counts } }
 
--- How many values were written, in how many bytes, and how many of the queried PIDs are among them.
-pub record ValuesRead : Type 0 where
-  pub count : ℕ
-  pub written : ℕ
-  pub given : ℕ
-
--- A reply read with a lent buffer: what is answered, and the lengths, the counts and the buffer afterwards.
+-- A reply read with a lent buffer: how many values it has or a number, how many bytes they take, what is known then, and the buffer.
 pub record ReadServed : Type 0 where
-  pub answer : Answer ValuesRead
-  pub lengths : List ℕ
-  pub counts : List ℕ
+  pub answer : Answer ℕ
+  pub written : ℕ
+  pub server : ServerState
   pub out : List ℕ
 
 -- 8 for a reply over 4,096 bytes, and 6 where the values are longer than the buffer: nothing is learned or written
-unfoldable pub readReply : Asked → List ℕ → List ℕ → ReadServed
-readReply q reply out =
-    let r = reading q reply in
+unfoldable pub readReply : ServerState → List ℕ → Bool → List ℕ → List ℕ → ReadServed
+readReply s pids several reply out =
+    let r = reading s pids several reply in
     let text = valuesBytes (r .values) in
     unless ((ltb 4096 (length reply), 8) ∷ (ltb (length out) (length text), 6) ∷ [])
-    (λ n. record { answer = refused n; lengths = q .lengths; counts = q .counts; out = out })
-    (record { answer = result (record { count = length (r .values); written = length text; given = r .given }); lengths = r .lengths; counts = r .counts; out = sets out 0 text })
-
--- the cases of ReadAnswer
-abbrev pub readAnswer : ReadAnswer → Answer ValuesRead
-readAnswer (answer.Values count written given) = result (record { count = count; written = written; given = given })
-readAnswer (answer.Refused r) = refused (number r)
+    (λ n. record { answer = refused n; written = 0; server = s; out = out })
+    (record { answer = result (length (r .values)); written = length text; server = r .server; out = sets out 0 text })
 
 abbrev pub replyRead : ReplyRead → List ℕ → ReadServed
-replyRead r out = record { answer = readAnswer (r .answer); lengths = r .lengths; counts = r .counts; out = out }
+replyRead r out = record { answer = countAnswer (r .answer); written = r .written; server = r .server; out = out }

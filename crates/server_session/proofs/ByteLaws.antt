@@ -92,22 +92,22 @@ end-after s e (c ∷ l) = rw (append-nil e)
 
 -- A byte that gets no number
 
-pub taken-cr : (s : Session) (b : ℕ) → b ≡ 13 → byteTaken s b ≡ afterText (echoed s b) (lineEnd s [] (canonical (s .line)))
+pub taken-cr : (s : Session) (b : ℕ) → b ≡ 13 → byteTaken s b ≡ afterText (echoed s (b ∷ [])) (lineEnd s [] (canonical (s .line)))
 unfolding byteTaken
-taken-cr s b e = rw (eq-eqb b 13 e) (end-after s (echoed s b) (canonical (s .line)))
+taken-cr s b e = rw (eq-eqb b 13 e) (end-after s (echoed s (b ∷ [])) (canonical (s .line)))
 
-pub taken-lf : (s : Session) (b : ℕ) → b ≡ 10 → byteTaken s b ≡ serverSaying 1 s (echoed s b)
+pub taken-lf : (s : Session) (b : ℕ) → b ≡ 10 → byteTaken s b ≡ serverSaying 1 s (echoed s (b ∷ []))
 unfolding byteTaken
 taken-lf s b e = rw e
 
 pub taken-plain : (s : Session) (b : ℕ) → (b ≡ 13 → ⊥) → (b ≡ 10 → ⊥) →
-    byteTaken s b ≡ serverSaying 1 (withLine s (s .line ++ (b ∷ [])) Reading) (echoed s b)
+    byteTaken s b ≡ serverSaying 1 (withLine s (s .line ++ (b ∷ [])) Reading) (echoed s (b ∷ []))
 unfolding byteTaken
 taken-plain s b p q = rw (ne-eqb b 13 p, ne-eqb b 10 q)
 
 -- How much is sent
 
-echo-short : (s : Session) (b : ℕ) → length (echoed s b) ≤ 1
+echo-short : (s : Session) (b : ℕ) → length (echoed s (b ∷ [])) ≤ 1
 echo-short s b = go (s .state .echo)
   where
     go : (on : Bool) → length {A = ℕ} (cond on (b ∷ []) []) ≤ 1
@@ -131,7 +131,7 @@ taken-short s b =
     by-test (eqb b 13)
     (λ e.
     rw (taken-cr s b (eqb-true b 13 e))
-    (omega (arith, length-append (echoed s b) (lineEnd s [] (canonical (s .line)) .text), echo-short s b, end-short s (canonical (s .line)))))
+    (omega (arith, length-append (echoed s (b ∷ [])) (lineEnd s [] (canonical (s .line)) .text), echo-short s b, end-short s (canonical (s .line)))))
     (λ e.
     by-test (eqb b 10)
     (λ f. rw (taken-lf s b (eqb-true b 10 f)) (omega (arith, echo-short s b)))

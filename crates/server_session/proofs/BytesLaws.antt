@@ -16,7 +16,7 @@ use Rattle.server_session.specs.declared.Phase.the-variants.{Reading, At
 use Rattle.server_session.specs.declared.ServerStep.{ServerStep}
 use Rattle.server_session.specs.Session.{Session}
 use Rattle.server_session.specs.Call.{ServerSaid, serverSaying, ServerServed, serverStep, serverLent}
-use Rattle.server_session.specs.Bytes.{canonical, withLine, echoes, echoed, commandPhase, lineEnd, byteTaken, byteSays, goesOn, bytesSay}
+use Rattle.server_session.specs.Bytes.{canonical, withLine, echoed, commandPhase, lineEnd, byteTaken, byteSays, goesOn, bytesSay}
 use Rattle.server_session.specs.Steps.{isSpecial}
 use Rattle.server_session.proofs.ByteLaws.{says-open, empty-last, line-command, taken-plain, text-short, taken-most, on-taken}
 
@@ -24,7 +24,7 @@ use Rattle.server_session.proofs.ByteLaws.{says-open, empty-last, line-
 
 -- a byte that is not special, in turn and with room, joins the line, and is sent back where echo is on
 pub says-plain : (room : ℕ) (s : Session) (b : ℕ) → s .phase ≡ Reading → 8 ≤ room → isSpecial b ≡ false → length (s .line) < 128 →
-    byteSays room s b ≡ serverSaying 1 (withLine s (s .line ++ (b ∷ [])) Reading) (echoed s b)
+    byteSays room s b ≡ serverSaying 1 (withLine s (s .line ++ (b ∷ [])) Reading) (echoed s (b ∷ []))
 unfolding isSpecial
 says-plain room s b t f p h =
     let (low, ends) = or-none (leb 128 b) (eqb b 13 || eqb b 10) p in
@@ -67,41 +67,41 @@ echo-cons true b t = refl
 echo-cons false b t = refl
 
 run-none : (rest : List ℕ) (s : Session) (room : ℕ) →
-    bytesSay room s rest ≡ after 0 (echoes s []) (bytesSay (room - length (echoes s [])) (withLine s (s .line ++ []) (s .phase)) rest)
+    bytesSay room s rest ≡ after 0 (echoed s []) (bytesSay (room - length (echoed s [])) (withLine s (s .line ++ []) (s .phase)) rest)
 run-none rest s room = rw (echo-none (s .state .echo), append-nil (s .line), sub-zero, zero-add)
 
-run-more : (b : ℕ) (text rest : List ℕ) (s : Session) (room : ℕ) (l : List ℕ) → s .line ++ (b ∷ []) ≡ l → byteSays room s b ≡ serverSaying 1 (withLine s l Reading) (echoed s b) →
-    bytesSay (room - length (echoed s b)) (withLine s l Reading) (text ++ rest) ≡
-    after (length text) (echoes s text) (bytesSay (room - length (echoed s b) - length (echoes s text)) (withLine s (l ++ text) Reading) rest) →
+run-more : (b : ℕ) (text rest : List ℕ) (s : Session) (room : ℕ) (l : List ℕ) → s .line ++ (b ∷ []) ≡ l → byteSays room s b ≡ serverSaying 1 (withLine s l Reading) (echoed s (b ∷ [])) →
+    bytesSay (room - length (echoed s (b ∷ []))) (withLine s l Reading) (text ++ rest) ≡
+    after (length text) (echoed s text) (bytesSay (room - length (echoed s (b ∷ [])) - length (echoed s text)) (withLine s (l ++ text) Reading) rest) →
     bytesSay room s (b ∷ (text ++ rest)) ≡
-    after (suc (length text)) (echoes s (b ∷ text)) (bytesSay (room - length (echoes s (b ∷ text))) (withLine s (s .line ++ (b ∷ text)) Reading) rest)
+    after (suc (length text)) (echoed s (b ∷ text)) (bytesSay (room - length (echoed s (b ∷ text))) (withLine s (s .line ++ (b ∷ text)) Reading) rest)
 run-more b text rest s room l j d q =
     let on : goesOn (byteSays room s b .answer) ≡ true = rw d in
-    let less : room - length (echoed s b ++ echoes s text) ≡ room - length (echoed s b) - length (echoes s text) = omega (arith, length-append (echoed s b) (echoes s text)) in
+    let less : room - length (echoed s (b ∷ []) ++ echoed s text) ≡ room - length (echoed s (b ∷ [])) - length (echoed s text) = omega (arith, length-append (echoed s (b ∷ [])) (echoed s text)) in
     let line : s .line ++ (b ∷ text) ≡ l ++ text = rw (← j, append-assoc) in
-    let h = bytesSay (room - length (echoed s b) - length (echoes s text)) (withLine s (l ++ text) Reading) rest in
+    let h = bytesSay (room - length (echoed s (b ∷ [])) - length (echoed s text)) (withLine s (l ++ text) Reading) rest in
     let more : 1 + (length text + h .taken) ≡ suc (length text) + h .taken = omega arith in
     bytes-on room s b (text ++ rest) on ∙ rw (d, q, echo-cons (s .state .echo) b text, less, line, append-assoc)
-    (λ i. record { answer = h .answer; taken = more i; next = h .next; text = echoed s b ++ (echoes s text ++ h .text) })
+    (λ i. record { answer = h .answer; taken = more i; next = h .next; text = echoed s (b ∷ []) ++ (echoed s text ++ h .text) })
 
 -- bytes that are not special, in turn and with room, join the line, and the others follow
-pub bytes-run : (text rest : List ℕ) (s : Session) (room : ℕ) → any isSpecial text ≡ false → s .phase ≡ Reading → length (s .line) + length text ≤ 128 → length (echoes s text) + 8 ≤ room →
-    bytesSay room s (text ++ rest) ≡ after (length text) (echoes s text) (bytesSay (room - length (echoes s text)) (withLine s (s .line ++ text) Reading) rest)
+pub bytes-run : (text rest : List ℕ) (s : Session) (room : ℕ) → any isSpecial text ≡ false → s .phase ≡ Reading → length (s .line) + length text ≤ 128 → length (echoed s text) + 8 ≤ room →
+    bytesSay room s (text ++ rest) ≡ after (length text) (echoed s text) (bytesSay (room - length (echoed s text)) (withLine s (s .line ++ text) Reading) rest)
 bytes-run [] rest s room p t h f = rw (← t) (run-none rest s room)
 bytes-run (b ∷ text) rest s room p t h f =
     let (q, r) = or-none (isSpecial b) (any isSpecial text) p in
-    let e = ap length (echo-cons (s .state .echo) b text) ∙ length-append (echoed s b) (echoes s text) in
+    let e = ap length (echo-cons (s .state .echo) b text) ∙ length-append (echoed s (b ∷ [])) (echoed s text) in
     run-more b text rest s room _ refl (says-plain room s b t (omega arith) q (omega arith))
-    (bytes-run text rest (withLine s (s .line ++ (b ∷ [])) Reading) (room - length (echoed s b)) r refl (omega (arith, length-append (s .line) (b ∷ []))) (omega arith))
+    (bytes-run text rest (withLine s (s .line ++ (b ∷ [])) Reading) (room - length (echoed s (b ∷ []))) r refl (omega (arith, length-append (s .line) (b ∷ []))) (omega arith))
 
 -- the same, where there may be none
 pub bytes-some : (text rest : List ℕ) (s : Session) (room : ℕ) → any isSpecial text ≡ false → (0 < length text → s .phase ≡ Reading) → length (s .line) + length text ≤ 128 →
-    (0 < length text → length (echoes s text) + 8 ≤ room) →
-    bytesSay room s (text ++ rest) ≡ after (length text) (echoes s text) (bytesSay (room - length (echoes s text)) (withLine s (s .line ++ text) (s .phase)) rest)
+    (0 < length text → length (echoed s text) + 8 ≤ room) →
+    bytesSay room s (text ++ rest) ≡ after (length text) (echoed s text) (bytesSay (room - length (echoed s text)) (withLine s (s .line ++ text) (s .phase)) rest)
 bytes-some [] rest s room p t h f = run-none rest s room
 bytes-some (b ∷ text) rest s room p t h f =
     bytes-run (b ∷ text) rest s room p (t (omega arith)) h (f (omega arith)) ∙
-    ap (λ (q : Phase). after (suc (length text)) (echoes s (b ∷ text)) (bytesSay (room - length (echoes s (b ∷ text))) (withLine s (s .line ++ (b ∷ text)) q) rest)) (sym (t (omega arith)))
+    ap (λ (q : Phase). after (suc (length text)) (echoed s (b ∷ text)) (bytesSay (room - length (echoed s (b ∷ text))) (withLine s (s .line ++ (b ∷ text)) q) rest)) (sym (t (omega arith)))
 
 nothing-fits : (s : Session) (room : ℕ) → (length (bytesSay room s [] .text) ≤ room) × (bytesSay room s [] .taken ≤ 0)
 unfolding bytesSay
@@ -137,34 +137,34 @@ abbrev pub handing : Session → List ℕ → Phase → ℕ → List ℕ → Ser
 handing s c p n e = record { answer = result p; taken = n; next = withLine s c p; text = e }
 
 -- CR is taken whatever the line holds
-says-cr : (room : ℕ) (s : Session) → s .phase ≡ Reading → 8 ≤ room → byteSays room s 13 ≡ lineEnd s (echoed s 13) (canonical (s .line))
+says-cr : (room : ℕ) (s : Session) → s .phase ≡ Reading → 8 ≤ room → byteSays room s 13 ≡ lineEnd s (echoed s (13 ∷ [])) (canonical (s .line))
 unfolding byteTaken
 says-cr room s t f = says-open room s 13 (record { turn = t; free = f; low = lit≤ tt; short = λ p _. absurd (p refl) })
 
 -- CR after a line that has a command
 pub cr-command : (rest : List ℕ) (s : Session) (room : ℕ) → s .phase ≡ Reading → 8 ≤ room → 0 < length (canonical (s .line)) →
-    bytesSay room s (13 ∷ rest) ≡ handing s (canonical (s .line)) (commandPhase (canonical (s .line))) 1 (echoed s 13)
+    bytesSay room s (13 ∷ rest) ≡ handing s (canonical (s .line)) (commandPhase (canonical (s .line))) 1 (echoed s (13 ∷ []))
 cr-command rest s room t f h =
     let c = canonical (s .line) in
-    let d : byteSays room s 13 ≡ serverSaying 1 (withLine s c (commandPhase c)) (echoed s 13) = says-cr room s t f ∙ line-command s (echoed s 13) c (λ e. omega arith) in
+    let d : byteSays room s 13 ≡ serverSaying 1 (withLine s c (commandPhase c)) (echoed s (13 ∷ [])) = says-cr room s t f ∙ line-command s (echoed s (13 ∷ [])) c (λ e. omega arith) in
     bytes-stop room s 13 rest (rw d (command-stops c)) ∙ rw d
 
 -- CR after an empty line: the last command
 pub cr-repeat : (rest : List ℕ) (s : Session) (room : ℕ) → s .phase ≡ Reading → 8 ≤ room → canonical (s .line) ≡ [] → 0 < length (s .state .last) →
-    bytesSay room s (13 ∷ rest) ≡ handing s (s .state .last) ObdCommand 1 (echoed s 13)
+    bytesSay room s (13 ∷ rest) ≡ handing s (s .state .last) ObdCommand 1 (echoed s (13 ∷ []))
 cr-repeat rest s room t f z h =
-    let d : byteSays room s 13 ≡ serverSaying 1 (withLine s (s .state .last) ObdCommand) (echoed s 13) =
-    says-cr room s t f ∙ rw z (empty-last s (echoed s 13) (s .state .last) (λ e. omega arith)) in
+    let d : byteSays room s 13 ≡ serverSaying 1 (withLine s (s .state .last) ObdCommand) (echoed s (13 ∷ [])) =
+    says-cr room s t f ∙ rw z (empty-last s (echoed s (13 ∷ [])) (s .state .last) (λ e. omega arith)) in
     bytes-stop room s 13 rest (rw d) ∙ rw d
 
 -- A line of plain bytes, and CR: its command is handed out, all of it was taken and sent back where echo is on.
-pub line-says : (text rest : List ℕ) (s : Session) (room : ℕ) → any isSpecial text ≡ false → s .phase ≡ Reading → length (s .line) + length text ≤ 128 → length (echoes s text) + 8 ≤ room →
+pub line-says : (text rest : List ℕ) (s : Session) (room : ℕ) → any isSpecial text ≡ false → s .phase ≡ Reading → length (s .line) + length text ≤ 128 → length (echoed s text) + 8 ≤ room →
     0 < length (canonical (s .line ++ text)) →
     bytesSay room s (text ++ (13 ∷ rest)) ≡
-    handing s (canonical (s .line ++ text)) (commandPhase (canonical (s .line ++ text))) (length text + 1) (echoes s (text ++ (13 ∷ [])))
+    handing s (canonical (s .line ++ text)) (commandPhase (canonical (s .line ++ text))) (length text + 1) (echoed s (text ++ (13 ∷ [])))
 line-says text rest s room p t h f k =
     bytes-run text (13 ∷ rest) s room p t h f ∙
-    rw (cr-command rest (withLine s (s .line ++ text) Reading) (room - length (echoes s text)) refl (omega arith) k, ← echo-append (s .state .echo) text (13 ∷ []))
+    rw (cr-command rest (withLine s (s .line ++ text) Reading) (room - length (echoed s text)) refl (omega arith) k, ← echo-append (s .state .echo) text (13 ∷ []))
 
 -- What the contract gives a caller of `bytes`: the bytes to send stand inside the lent buffer, and those taken inside the input.
 pub bytes-written : (s : Session) (input out left : List ℕ) (r : ServerStep) → serverStep r left ≡ serverLent (bytesSay (length out) s input) out →

@@ -9,12 +9,13 @@ use lib.ListN.{length, length-append}
 use borrow.Author.Tests.{eqb-true, eqb-false, le-ltb, ltb-false}
 use Rattle.wire.specs.Answer.{unless}
 use Rattle.wire.specs.declared.Refusal.{Refusal}
+use Rattle.wire.specs.declared.Count.the-variants.{Is, Refused}
 use Rattle.wire.proofs.UnlessLaws.{unless-by}
 use Rattle.wire.proofs.Cases.{by-test, or-none}
 use Rattle.group.specs.Group.{got, isMalformed, listOf}
 use Rattle.line_list.specs.Lines.{Line, lineList, lineFormat}
 use Rattle.group.proofs.WalkLaws.{left-end}
-use Rattle.wire.specs.Put.{Put}
+use Rattle.wire.specs.Put.{Put, countWritten}
 use Rattle.wire.specs.Text.{ascii}
 use Rattle.wire.proofs.PutLaws.{put-whole}
 use Rattle.client_state.specs.Settings.{settings, withLast}
@@ -26,8 +27,7 @@ use Rattle.at_command.specs.declared.IdentityText.the-variants.{Ati, Device}
 use Rattle.reply.specs.Shape.{chipReply}
 use Rattle.reply.specs.Reply.{replyText}
 use Rattle.reply.specs.Answers as R
-use Rattle.reply.specs.declared.ReplyAnswer.the-variants.{Written, Refused}
-use Rattle.reply.proofs.AnswerLaws.{refused-out, refused-same, written-told}
+use Rattle.reply.proofs.AnswerLaws.{refused-out, refused-same, replied-rows, written-told}
 use Rattle.reply.proofs.TextLaws.{no-lines}
 use Rattle.server_session.specs.declared.Phase.the-variants.{Reading}
 use Rattle.server_session.specs.declared.ServerAnswer.the-variants as answer
@@ -35,7 +35,7 @@ use Rattle.server_session.specs.declared.ServerSession.{ServerSession}
 use Rattle.server_session.specs.declared.ServerStep.{ServerStep}
 use Rattle.server_session.specs.Session.{Session, session}
 use Rattle.server_session.specs.Call.{ServerSaid, serverRefusing, ServerServed, serverStep, serverLent}
-use Rattle.server_session.specs.Replies.{lineAwaited, atAnswered, answerSays, isObd, lastAfter, repliedTo, replySays, rejectSays}
+use Rattle.server_session.specs.Replies.{lineAwaited, atAnswered, answerSays, isObd, lastAfter, replySays, rejectSays}
 
 -- the step that sends what was written, with some settings, and the one that is refused
 abbrev pub sentStep : ClientState → List ℕ → ℕ → ServerStep
@@ -104,13 +104,19 @@ module _ (self : ServerSession) (list : List ℕ) (out left : List ℕ) (turn : 
   abbrev hd : Bool
   hd = s .state .headers
 
-  pub reply-refused : (r : Refusal) → R.replyWritten (Refused r) left ≡ R.replied lf sp hd list out →
+  -- what is said of a list with these lines
+  abbrev repliedTo : List Line → ServerSaid
+  repliedTo ls = lineAwaited (lastAfter ls s) (replyText lf sp hd ls)
+
+  pub reply-refused : (r : Refusal) → countWritten (Refused r) left ≡ R.replied lf sp hd list out →
       serverStep (refusedStep self r) left ≡ serverLent (replySays (length out) s list) out
-  unfolding R.replied replySays unless
+  unfolding replySays unless
   reply-refused r q =
       let text = replyText lf sp hd (listOf (lineList list)) in
-      let says = refused-same out text left ((isMalformed (lineList list), 5) ∷ (ltb (length out) (length text), 6) ∷ []) (serverRefusing s) (repliedTo s (listOf (lineList list))) r q in
-      let kept = refused-out out text left ((isMalformed (lineList list), 5) ∷ (ltb (length out) (length text), 6) ∷ []) r q in
+      let rows : List (Bool × ℕ) = (isMalformed (lineList list), 5) ∷ (ltb (length out) (length text), 6) ∷ [] in
+      let q₁ = q ∙ replied-rows lf sp hd list out in
+      let says = refused-same out text left rows (serverRefusing s) (repliedTo (listOf (lineList list))) r q₁ in
+      let kept = refused-out out text left rows r q₁ in
       rw (turn, says, kept)
 
   -- a list of no bytes has no lines, and only that one
@@ -128,14 +134,14 @@ module _ (self : ServerSession) (list : List ℕ) (out left : List ℕ) (turn : 
       rw (t, none))
       (λ t. rw t (some-lines ls (λ z. eqb-false (length list) 0 t (no-lines 64 list rest (g ∙ rw z)))))
 
-  pub reply-sent : (n : ℕ) (state : ClientState) → R.replyWritten (Written n) left ≡ R.replied lf sp hd list out →
+  pub reply-sent : (n : ℕ) (state : ClientState) → countWritten (Is n) left ≡ R.replied lf sp hd list out →
       settings state ≡ cond (eqb (length list) 0) (s .state) (withLast (s .state) (s .line)) →
       serverStep (sentStep state (self .line) n) left ≡ serverLent (replySays (length out) s list) out
   unfolding replySays unless
   reply-sent n state q k =
       let (ls, rest, g, fits, p) = written-told lf sp hd list out q in
       let text = replyText lf sp hd ls in
-      let e : replySays (length out) s list ≡ repliedTo s ls = rw (turn, g, le-ltb (length out) (length text) fits) in
+      let e : replySays (length out) s list ≡ repliedTo ls = rw (turn, g, le-ltb (length out) (length text) fits) in
       sent state (self .line) text p fits ∙ ap (λ x. serverLent (lineAwaited x text) out) (k ∙ kept-after ls rest g) ∙ ap (λ d. serverLent d out) (sym e)
 
 -- What the contracts give a caller: the bytes to send stand inside the lent buffer.

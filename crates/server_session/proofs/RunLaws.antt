@@ -23,7 +23,7 @@ use Rattle.server_session.specs.declared.Turn.{Turn}
 use Rattle.server_session.specs.declared.Run.{Run}
 use Rattle.server_session.specs.Session.{Session, isReading}
 use Rattle.server_session.specs.Call.{ServerSaid, serverAnswer, ServerServed, serverLent}
-use Rattle.server_session.specs.Bytes.{withLine, echoes, byteSays, goesOn, bytesSay}
+use Rattle.server_session.specs.Bytes.{withLine, echoed, byteSays, goesOn, bytesSay}
 use Rattle.server_session.specs.Steps.{ByteDoes, Leaves, Serves, Shows, turnSession, isSpecial, RunFits, Ran, Joins}
 use Rattle.server_session.proofs.ByteLaws.{reading, text-short, taken-most}
 use Rattle.server_session.proofs.StepLaws.{line-size}
@@ -142,15 +142,15 @@ module _ (t : Turn) (state : Settings) (line input out : List ℕ) (i at : ℕ) 
   splits : drop i input ≡ text ++ drop (i + count) input
   splits = rw (← drop-drop count i input) (sym (take-append-drop count (drop i input)))
 
-  sent : Put out at (echoes s text) (r .at) o
+  sent : Put out at (echoed s text) (r .at) o
   sent = rw (shows .echo) (ran .sent)
 
-  echo-room : 0 < length text → length (echoes s text) + 8 ≤ length out - at
+  echo-room : 0 < length text → length (echoed s text) + 8 ≤ length out - at
   echo-room some =
       rw (shows .echo)
       (omega (arith, text-long, fits .room (omega (arith, text-long, ran .within)), echo-length (f .echo) text, echo-most (f .echo) (length text) (run .most) (omega (arith, text-long, ran .within))))
 
-  echo-fits : length (echoes s text) ≤ length out - at
+  echo-fits : length (echoed s text) ≤ length out - at
   echo-fits =
       by-test (eqb (length text) 0)
       (λ e. omega (arith, eqb-true (length text) 0 e, echo-less (state .echo) text))
@@ -158,7 +158,7 @@ module _ (t : Turn) (state : Settings) (line input out : List ℕ) (i at : ℕ) 
 
   pub run-turn : Leads state input t line i at out then l (r .next) (r .at) o
   run-turn =
-      let e = echoes s text in
+      let e = echoed s text in
       let w : at + length e ≤ length out = omega (arith, echo-fits) in
       let room : length o - r .at ≡ length out - at - length e = omega (arith, put-whole sent w, put-length sent) in
       let h = bytesSay (length out - at - length e) (withLine s (s .line ++ text) (t .phase)) (drop (i + count) input) in

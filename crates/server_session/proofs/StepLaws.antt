@@ -110,7 +110,7 @@ module _ (t : Turn) (state : Settings) (line : List ℕ) (b : ℕ) {room free : 
       take-fits no-cr no-lf k = omega (arith, accepted .short no-cr no-lf, length-take (t .len) line)
 
       module _ (f : Flags) (shows : Shows state f) {out o₁ : List ℕ} {at end : ℕ} (put : Put out at (cond (f .echo) (b ∷ []) []) end o₁) where
-        echo : Put out at (echoed s b) end o₁
+        echo : Put out at (echoed s (b ∷ [])) end o₁
         echo = rw (shows .echo) put
 
         pub take-cr : {r : Did} {line₁ left : List ℕ} → b ≡ 13 → ByteDoes (lineEnd s [] (canonical (s .line))) state line₁ o₁ end r left → ByteDoes (byteSays free s b) state line₁ out at r left

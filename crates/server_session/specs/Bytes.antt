@@ -6,7 +6,7 @@ use mathlib.Core.List.{List, [], _∷_, _++_}
 use Prim.Native.Nat.{ℕ, _+_, _-_}
 use lib.Dec.{eqb, ltb, leb}
 use lib.ListN.{length}
-use Rattle.wire.specs.Answer.{Answer, result, refused, unless}
+use Rattle.wire.specs.Answer.{Answer, ifResult, unless}
 use Rattle.wire.specs.Text.{ascii, begins, isSpace, raised}
 use Rattle.reply.specs.Shape.{chipReply}
 use Rattle.server_session.specs.declared.Phase.{Phase}
@@ -24,11 +24,8 @@ abbrev pub withLine : Session → List ℕ → Phase → Session
 withLine s l p = record { state = s .state; line = l; phase = p }
 
 -- what is sent back of some bytes
-abbrev pub echoes : Session → List ℕ → List ℕ
-echoes s bs = cond (s .state .echo) bs []
-
-abbrev pub echoed : Session → ℕ → List ℕ
-echoed s b = echoes s (b ∷ [])
+abbrev pub echoed : Session → List ℕ → List ℕ
+echoed s bs = cond (s .state .echo) bs []
 
 -- the kind of a command
 abbrev pub commandPhase : List ℕ → Phase
@@ -47,9 +44,9 @@ lineEnd s e (c ∷ cs) = serverSaying 1 (withLine s (c ∷ cs) (commandPhase (c 
 -- a byte that gets no number
 unfoldable pub byteTaken : Session → ℕ → ServerSaid
 byteTaken s b =
-    cond (eqb b 13) (lineEnd s (echoed s b) (canonical (s .line)))
-    (cond (eqb b 10) (serverSaying 1 s (echoed s b))
-    (serverSaying 1 (withLine s (s .line ++ (b ∷ [])) Reading) (echoed s b)))
+    cond (eqb b 13) (lineEnd s (echoed s (b ∷ [])) (canonical (s .line)))
+    (cond (eqb b 10) (serverSaying 1 s (echoed s (b ∷ [])))
+    (serverSaying 1 (withLine s (s .line ++ (b ∷ [])) Reading) (echoed s (b ∷ []))))
 
 -- a byte: out of turn; room under 8; a byte of 80 or more; a line that holds 128, unless it is CR or LF
 unfoldable pub byteSays : ℕ → Session → ℕ → ServerSaid
@@ -63,16 +60,12 @@ byteSays room s b =
 
 -- more bytes are looked at while the line is read
 abbrev pub goesOn : Answer Phase → Bool
-goesOn (result p) = isReading p
-goesOn (refused n) = false
-
--- what is said, and then the rest
-abbrev pub followed : ServerSaid → ServerSaid → ServerSaid
-followed d h = record { answer = h .answer; taken = d .taken + h .taken; next = h .next; text = d .text ++ h .text }
+goesOn a = ifResult a (λ n. false) isReading
 
 -- bytes one after the other, each with the room that those before it left, up to a command or a number
 unfoldable pub bytesSay : ℕ → Session → List ℕ → ServerSaid
 bytesSay room s [] = serverSaying 0 s []
 bytesSay room s (b ∷ bs) =
     let d = byteSays room s b in
-    cond (goesOn (d .answer)) (followed d (bytesSay (room - length (d .text)) (d .next) bs)) d
+    let h = bytesSay (room - length (d .text)) (d .next) bs in
+    cond (goesOn (d .answer)) (record { answer = h .answer; taken = d .taken + h .taken; next = h .next; text = d .text ++ h .text }) d

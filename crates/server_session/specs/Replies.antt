@@ -54,26 +54,21 @@ abbrev pub lastAfter : List Line → Session → Settings
 lastAfter [] s = s .state
 lastAfter (l ∷ ls) s = withLast (s .state) (s .line)
 
-abbrev pub repliedTo : Session → List Line → ServerSaid
-repliedTo s ls = lineAwaited (lastAfter ls s) (replyText (s .state .linefeeds) (s .state .spaces) (s .state .headers) ls)
-
 -- a reply: no OBD command is handed out; not a line list; a text longer than the room
 unfoldable pub replySays : ℕ → Session → List ℕ → ServerSaid
 replySays room s list =
-    let d = repliedTo s (listOf (lineList list)) in
+    let ls = listOf (lineList list) in
+    let d = lineAwaited (lastAfter ls s) (replyText (s .state .linefeeds) (s .state .spaces) (s .state .headers) ls) in
     unless (
     (not (isObd (s .phase)), 1) ∷
     (isMalformed (lineList list), 5) ∷
     (ltb room (length (d .text)), 6) ∷ [])
     (serverRefusing s) d
 
-abbrev pub rejected : Session → List ℕ → ServerSaid
-rejected s text = lineAwaited (s .state) (chipReply (s .state .linefeeds) (text ∷ []))
-
 -- a rejection: no OBD command is handed out; over 64 bytes; a byte of 80 or more; a text longer than the room
 unfoldable pub rejectSays : ℕ → Session → List ℕ → ServerSaid
 rejectSays room s text =
-    let d = rejected s text in
+    let d = lineAwaited (s .state) (chipReply (s .state .linefeeds) (text ∷ [])) in
     unless (
     (not (isObd (s .phase)), 1) ∷
     (ltb 64 (length text), 3) ∷

@@ -7,7 +7,7 @@ use crate::Turn;
 use at_command::AtHandled;
 use at_command::AtKind;
 use client_state::ClientState;
-use reply::ReplyAnswer;
+use wire::Count;
 use wire::Refusal;
 use wire::Verdict;
 ghost use mathlib.Core.Path.{_≡_};
@@ -23,7 +23,7 @@ ghost use Rattle.reply.specs.Shape.{chipReply};
 ghost use Rattle.at_command.specs.Dialect.{atKind, kindSettings, kindLines};
 ghost use Rattle.server_session.specs.Session.{Session, session};
 ghost use Rattle.server_session.specs.Call.{serverRefusing, serverStep, serverLent};
-ghost use Rattle.server_session.specs.Replies.{isAt, isObd, answerSays, atAnswered, replySays, rejectSays, rejected};
+ghost use Rattle.server_session.specs.Replies.{isAt, isObd, lineAwaited, answerSays, atAnswered, replySays, rejectSays};
 
 // Whether an AT command is handed out.
 fn is_at(phase: Phase) -> bool
@@ -87,7 +87,7 @@ fn answer_verdict(turn: Turn, ati: &[u8], device: &[u8], room: usize) -> Verdict
 // Whether a rejection is refused.
 fn reject_verdict(turn: Turn, text: &[u8], linefeeds: bool, room: usize) -> Verdict
     ensures { λ r. ⌜ ((s : Session) → s .phase ≡ turn .phase → s .state .linefeeds ≡ linefeeds → rejectSays room s (now (text .entry)) ≡
-        settled r (serverRefusing s) (rejected s (now (text .entry)))) ⌝ }
+        settled r (serverRefusing s) (lineAwaited (s .state) (chipReply (s .state .linefeeds) (now (text .entry) ∷ [])))) ⌝ }
 {
     let phase = turn.phase;
     if !is_obd(phase) {
@@ -237,8 +237,8 @@ impl ServerSession {
             out,
         );
         match answer {
-            ReplyAnswer::Refused(refusal) => self.refused(refusal),
-            ReplyAnswer::Written(size) => {
+            Count::Refused(refusal) => self.refused(refusal),
+            Count::Is(size) => {
                 let state = kept(self.state, &self.line, self.turn.len, list.len());
                 self.answered(state, size)
             }

@@ -105,7 +105,7 @@ impl ServerState {
         EcuCount::Given(count)
     }
 
-    // How many data bytes follow a PID in a reply: from the table of J1979, or learned.
+    // How many data bytes follow a PID in a reply: from the table, or learned.
     pub fn data_length(self, pid: u8) -> DataLength
         ensures { λ r. ⌜ dataLength r ≡ lengthIn (self .«pid_lengths») pid ⌝ }
     {

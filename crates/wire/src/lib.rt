@@ -39,6 +39,12 @@ pub enum Verdict {
     Refused(Refusal),
 }
 
+// How many, or why a call does not tell: so many lines or bytes, or the position after those that were written.
+pub enum Count {
+    Is(usize),
+    Refused(Refusal),
+}
+
 // Document 01's number of a refusal.
 pub fn number(refusal: Refusal) -> u8
     ensures { λ r. ⌜ r ≡ number refusal ⌝ }

@@ -8,7 +8,7 @@ use lib.ListN.{length}
 use borrow.Author.Needs.{needs}
 use Rattle.wire.specs.Text.{joined}
 use Rattle.wire.proofs.PutLaws.{put-length}
-use Rattle.hire_text.specs.Hire.{hexLines}
+use Rattle.hire_text.proofs.LineLaws.{hexLines}
 use Rattle.hire_text.specs.Steps.{AreParts}
 use Rattle.hire_text.proofs.PartLaws.{LinesLeft, lines-start, lines-next, lines-end}
 use Rattle.hire_text.proofs.put_parts.Statement.{statement}

@@ -1,4 +1,4 @@
--- `pid::mode01_pid_data_lengths` meets its contract: the constant, entry by entry, is what the rows of SAE J1979 give.
+-- `pid::mode01_pid_data_lengths` meets its contract: the constant, entry by entry, is what the rows give.
 use mathlib.Core.Path.{refl}
 use Rattle.pid.specs.J1979.{j1979}
 use Rattle.pid.specs.Lengths.{mode01Lengths}

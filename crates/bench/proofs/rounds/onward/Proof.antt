@@ -1,11 +1,11 @@
 -- `bench::rounds::onward` meets its contract.
-use borrow.Author.Tests.{not-true, not-false}
+use native.Mathlib.Omega.{arith}
 use Rattle.bench.proofs.OnwardLaws.{Held, held-same, held-then, held-does, does-held, onward-held, onward-stops, onward-goes, onward-ended}
 use Rattle.bench.specs.Steps.{roundOf, Room}
 use Rattle.bench.specs.Run.{onward}
-use lib.ListN.{length}
-use Prim.Native.Nat.{_-_, _≤_}
-use mathlib.Core.Path.{_≡_, sym, _∙_}
+use lib.ListN.{length, take, length-take}
+use Prim.Native.Nat.{_-_, _≤_, _<_}
+use mathlib.Core.Path.{_≡_}
 use borrow.Author.Needs.{needs}
 use Rattle.bench.proofs.rounds.onward.Statement.{statement}
 use Rattle.bench.proofs.rounds.onward.Tie as tie
@@ -21,9 +21,6 @@ abbrev μ-loop : tie.MeasureT-loop
 loop-holds : tie.Need-loop-holds Inv-loop μ-loop
 loop-holds c = (held-same _, search needs, c .before .before .before .before .before .pre .1, search needs)
 
-is-sent-requires : tie.Need-is-sent-requires Inv-loop μ-loop
-is-sent-requires c κs = search needs
-
 same-length : tie.Need-same-length Inv-loop μ-loop
 same-length c = search needs
 
@@ -36,10 +33,12 @@ same-length-3 c = search needs
 returns : tie.Need-returns Inv-loop μ-loop
 returns c =
     let head = c .before .before .before in
-    held-does (held-then (head .loop .inv .0) (onward-stops (head .loop .left) _ _ (sym (c .before .is-sent .ensures) ∙ not-true _ (c .if1 .taken)))) (head .loop .inv .1) (head .loop .inv .2)
+    let at = head .loop .at in
+    let none : length (take (at .written) (head .loop .out)) ≤ 0 = omega (arith, length-take (at .written) (head .loop .out), c .if1 .taken) in
+    held-does (held-then (head .loop .inv .0) (onward-stops (head .loop .left) _ _ none)) (head .loop .inv .1) (head .loop .inv .2)
 
 round-requires : tie.Need-round-requires Inv-loop μ-loop
-round-requires c κs = (c .before .before .before .before .before .before .before .loop .inv .1, c .before .before .before .before .before .before .before .loop .inv .2)
+round-requires c κs = let head = c .before .before .before .before .before .before .before in (head .loop .inv .1, head .loop .inv .2)
 
 sub-left : tie.Need-sub-left Inv-loop μ-loop
 sub-left c = search needs
@@ -51,11 +50,12 @@ loop-again : tie.Need-loop-again Inv-loop μ-loop
 loop-again c =
     let at-round = c .before .before .before .before .before .before in
     let at-if1 = at-round .before .before .before .before .before in
-    let at-is-sent = at-if1 .before in
-    let at-loop-test = at-is-sent .before in
-    let head = at-loop-test .before in (
-      held-then (head .loop .inv .0) (held-then (onward-goes (head .loop .left) _ _ (at-loop-test .loop-test .taken)
-          (sym (at-is-sent .is-sent .ensures) ∙ not-false _ (at-if1 .if1 .left))) (onward-held (head .loop .left - 1) _ (does-held (at-round .round .ensures)))),
+    let at-loop-test = at-if1 .before .before in
+    let head = at-loop-test .before in
+    let at = head .loop .at in
+    let some : 0 < length (take (at .written) (head .loop .out)) = omega (arith, length-take (at .written) (head .loop .out), head .loop .inv .1, at-if1 .if1 .left) in (
+      held-then (head .loop .inv .0) (held-then (onward-goes (head .loop .left) _ _ (at-loop-test .loop-test .taken) some)
+          (onward-held (head .loop .left - 1) _ (does-held (at-round .round .ensures)))),
       at-round .round .ensures .inside,
       at-round .round .ensures .room,
       search needs,
@@ -80,7 +80,6 @@ onward-spec =
     Inv-loop
     μ-loop
     loop-holds
-    is-sent-requires
     same-length
     same-length-2
     same-length-3

@@ -1,29 +1,17 @@
--- `hire::main` meets its contract.
+-- `hire::print_record` meets its contract.
 use mathlib.Core.Path.{sym}
 use native.Mathlib.Omega.{arith}
 use lib.Seq.{length-take-le}
 use Rattle.hire_text.proofs.HireLaws.{text-inside}
 use borrow.Author.Needs.{needs}
-use Rattle.hire.proofs.main.Statement.{statement}
-use Rattle.hire.proofs.main.Tie as tie
-
-slice-aggregate-read-full : tie.Need-slice-aggregate-read-full
-slice-aggregate-read-full c = search needs
-
-read-full-requires : tie.Need-read-full-requires
-read-full-requires c κs = search needs
-
-array-share-prefix-script : tie.Need-array-share-prefix-script
-array-share-prefix-script c = search needs
+use Rattle.hire.proofs.print_record.Statement.{statement}
+use Rattle.hire.proofs.print_record.Tie as tie
 
 slice-aggregate-hire-text : tie.Need-slice-aggregate-hire-text
 slice-aggregate-hire-text c = search needs
 
 slice-aggregate-hire-text-2 : tie.Need-slice-aggregate-hire-text-2
 slice-aggregate-hire-text-2 c = search needs
-
-slice-aggregate-hire-text-3 : tie.Need-slice-aggregate-hire-text-3
-slice-aggregate-hire-text-3 c = search needs
 
 hire-text-requires : tie.Need-hire-text-requires
 hire-text-requires c κs = search needs
@@ -51,19 +39,24 @@ slice-aggregate-write-all c =
 write-all-requires : tie.Need-write-all-requires
 write-all-requires c κs = search needs
 
+slice-aggregate-write-all-2 : tie.Need-slice-aggregate-write-all-2
+slice-aggregate-write-all-2 c = search needs
+
+write-all-requires-2 : tie.Need-write-all-requires-2
+write-all-requires-2 c κs = search needs
+
 returns-2 : tie.Need-returns-2
 returns-2 c = search needs
 
-pub main-spec : {M : Type 1} → statement M
-main-spec =
+returns-3 : tie.Need-returns-3
+returns-3 c = search needs
+
+pub print-record-spec : {M : Type 1} → statement M
+print-record-spec =
     tie.close
     (tie.spec
-    slice-aggregate-read-full
-    read-full-requires
-    array-share-prefix-script
     slice-aggregate-hire-text
     slice-aggregate-hire-text-2
-    slice-aggregate-hire-text-3
     hire-text-requires
     enum-known-end
     enum-told
@@ -71,4 +64,7 @@ main-spec =
     array-share-prefix-out
     slice-aggregate-write-all
     write-all-requires
-    returns-2)
+    slice-aggregate-write-all-2
+    write-all-requires-2
+    returns-2
+    returns-3)

@@ -1,0 +1,2 @@
+pub mod VehicleLaws
+pub mod ServeLaws

@@ -1,0 +1,2 @@
+pub mod Datasheet
+pub mod Sent
