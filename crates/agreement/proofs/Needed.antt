@@ -1,4 +1,5 @@
--- Each premise of demand 3 is needed: for each there are runs that meet the others, of which the claim is false.
+-- Premises of demand 3 that are needed: for each there are runs that meet the others, of which the claim is false. For two words none were found (the end of this file).
+-- Fresh sessions, framing on and ATZ's answer as one piece are no premises here: the run is defined so.
 use mathlib.Core.Path.{_≡_, refl, ap}
 use mathlib.Core.Bool.{true}
 use mathlib.Core.List.{List, [], _∷_, _++_}

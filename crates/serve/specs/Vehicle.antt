@@ -43,7 +43,7 @@ abbrev pub parameters : List Parameter
 parameters =
     parameter 0x00 (knownBits measured 0x01 8 ∷ knownBits measured 0x09 8 ∷ knownBits measured 0x11 8 ∷ knownBits measured 0x19 8 ∷ []) ∷ measured
 
--- a query for one PID: 01, the PID's digits, and at most one character more, as the digit that says how many lines are awaited
+-- a query for one PID: 01, the PID's digits, and at most one character more, whatever it is: readers put the number of lines that they await there
 abbrev pub asksFor : List ℕ → ℕ → Bool
 asksFor command p = leb (length command) 5 && begins command (ascii "01" ++ hexByte p)
 
