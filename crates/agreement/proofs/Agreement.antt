@@ -1,6 +1,5 @@
 -- Demand 3: two runs have equal records exactly when the two vehicles gave the same.
-use mathlib.Core.Path.{_≡_, refl, sym, ap, subst, _∙_}
-use mathlib.Core.Bool.{true, false}
+use mathlib.Core.Path.{_≡_, refl, sym, ap, _∙_}
 use mathlib.Core.List.{List, [], _∷_, _++_, map}
 use mathlib.Core.Logic.{_↔_}
 use Prim.Native.Nat.{ℕ, zero, suc, _-_, _≤_, _<_}
@@ -20,16 +19,15 @@ use Rattle.wire.proofs.All.{Bytes, all-from}
 use Rattle.value.specs.Values.{Value, partFormat, readRecord}
 use Rattle.value.specs.Same.{SameValues, SameQueries}
 use Rattle.value.proofs.RecordLaws.{RecordFits, record-back, same-record}
-use Rattle.reply.specs.Reply.{replyText}
 use Rattle.reply_values.specs.Values.{answerOrder}
 use Rattle.bench.specs.Script.{Query, script}
-use Rattle.bench.specs.Run.{Run, Recorded, runAnswer}
+use Rattle.bench.specs.Run.{Run, Recorded}
 use Rattle.agreement.specs.Vehicle.{given}
-use Rattle.agreement.specs.Ends.{Reach, reach}
-use Rattle.agreement.specs.Demand.{GoodQueries, givens, commands, SameFirst, Drive, Ran, queries, hireRecord, partsStanding, comesTo, GoodRan, reaches, EveryFits, Holds, HoldsFirst, Agreement}
+use Rattle.agreement.specs.Ends.{Reach, tooLong, reach}
+use Rattle.agreement.specs.Demand.{GoodQueries, givens, commands, SameFirst, Drive, Ran, queries, hireRecord, partsStanding, comesTo, GoodRan, reaches, EveryFits, Holds, Agreement}
 use Rattle.agreement.proofs.Finished.{answer-reordered}
 use Rattle.agreement.proofs.Parts.{ordered}
-use Rattle.agreement.proofs.Ran.{take-first, reach-few, length-ordered, Known, run-known, run-refused}
+use Rattle.agreement.proofs.Ran.{take-first, reach-few, length-ordered, run-known, run-refused}
 
 -- ---- the first n of some lists
 
@@ -89,7 +87,7 @@ reach-inside room [] vss = omega arith
 reach-inside room (q ∷ qs) [] = omega arith
 reach-inside room (q ∷ qs) (vs ∷ vss) =
     let bytes = partFormat .write vs in
-    by-test (ltb 4096 (length (replyText false false true (q .lines))))
+    by-test (tooLong q)
     (λ e. rw e (omega arith))
     (λ e.
     by-test (ltb room (length bytes))
@@ -104,7 +102,7 @@ reach-whole : (room : ℕ) (qs : List Query) (vss : List (List Value)) → lengt
 reach-whole room [] vss l a = refl
 reach-whole room (q ∷ qs) [] l a = absurd (omega arith)
 reach-whole room (q ∷ qs) (vs ∷ vss) l a =
-    by-test (ltb 4096 (length (replyText false false true (q .lines))))
+    by-test (tooLong q)
     (λ e. let b = rw e at a in from-no cc)
     (λ e.
     by-test (ltb room (length (partFormat .write vs)))
@@ -114,6 +112,15 @@ reach-whole room (q ∷ qs) (vs ∷ vss) l a =
 length-givens : (qs : List Query) → length (givens qs) ≡ length qs
 length-givens [] = refl
 length-givens (q ∷ qs) = ap suc (length-givens qs)
+
+-- where every query fits, it goes through all of them
+module _ (d : Drive) where
+  fits-by : (a : Answer (List Query)) → script (d .scriptBytes) ≡ a → EveryFits d → reaches d .fit ≡ length (queries d)
+  fits-by (refused n) e f = let g = rw e at f in from-no cc
+  fits-by (result qs) e f = rw e (reach-whole (length (d .lentBuffer)) qs (givens qs) (length-givens qs) (rw e at f))
+
+  fits-whole : EveryFits d → reaches d .fit ≡ length (queries d)
+  fits-whole f = fits-by (script (d .scriptBytes)) refl f
 
 -- ---- one run
 
@@ -129,7 +136,6 @@ record Stands (n : ℕ) (d : Drive) : Type 0 where
   first : take n values ≡ take n (ordered (queries d))
   fit : count < n → count ≡ reaches d .fit
   answer : count < n → comesTo d .answer ≡ reaches d .answer
-  whole : length (queries d) ≤ n → EveryFits d → length (queries d) ≤ count
   handed : count < n → comesTo d .handed ≡ take (suc count) (commands (queries d))
   before : n ≤ count → take n (comesTo d .handed) ≡ take n (commands (queries d))
 
@@ -141,17 +147,6 @@ module _ (d : Drive) (r : Ran d) where
   bytes = all-from (λ b. b < 256) (d .scriptBytes) (r .bytes)
 
   module _ (L : ℕ → ℕ) (n : ℕ) where
-    -- where every query is the demand's and fits, all parts stand
-    every-stands : (qs : List Query) (run : ℕ → Run) (k : Known n qs run) → length qs ≤ n → reach room qs (givens qs) .answer ≡ result tt →
-        length qs ≤ reach room qs (k .limited .values) .fit
-    every-stands qs run k l f =
-        let vss = k .limited .values in
-        by-test (ltb (reach room qs vss .fit) (length qs))
-        (λ t.
-        let same = k .reached room (omega (arith, ltb-true (reach room qs vss .fit) (length qs) t)) in
-        omega (arith, ap (λ (r : Reach). r .fit) same, reach-whole room qs (givens qs) (length-givens qs) f))
-        (λ t. ltb-false (reach room qs vss .fit) (length qs) t)
-
     by-script : (a : Answer (List Query)) → script (d .scriptBytes) ≡ a → GoodQueries L (take n (queries d)) → Stands n d
     by-script (refused m) e good =
         let run = run-refused (d .repeat) (d .pieces) (d .scriptBytes) bytes m room e in
@@ -166,7 +161,6 @@ module _ (d : Drive) (r : Ran d) where
           first = rw e refl;
           fit = λ h. rw e refl;
           answer = λ h. ap (λ (r : Run). r .answer) run ∙ rw e refl;
-          whole = λ l f. rw e (omega arith);
           handed = λ h. ap (λ (r : Run). r .handed) run ∙ rw e refl;
           before = λ h. ap (λ (r : Run). take n (r .handed)) run ∙ rw e refl;
         }
@@ -184,7 +178,6 @@ module _ (d : Drive) (r : Ran d) where
           first = rw e (k .first);
           fit = λ h. rw e (ap (λ (r : Reach). r .fit) (k .reached room h));
           answer = λ h. rw e (k .limited .answer room ∙ ap (λ (r : Reach). r .answer) (k .reached room h));
-          whole = λ l f. rw e (every-stands qs _ k (rw e at l) (rw e at f));
           handed = λ h. rw e (k .handed room h);
           before = λ h. rw e (k .before room h);
         }
@@ -222,6 +215,7 @@ module _ (d : Drive) (r : Ran d) where
       record {
         stand = s ∙ t .fit ran;
         answer = ap (λ (x : Recorded). x .answer) (r .ran) ∙ t .answer ran;
+        whole = λ f. s ∙ t .fit ran ∙ fits-whole d f;
         handed = t .handed ran ∙ ap (λ n. take (suc n) (commands (queries d))) (sym s);
       }
 
@@ -233,7 +227,8 @@ module _ (d : Drive) (r : Ran d) where
   all-is : (t : Stands (length (queries d)) d) → EveryFits d → standing (length (queries d)) t ≡ ordered (queries d)
   all-is t f =
       let n = length (queries d) in
-      let whole : t .count ≡ n = omega (arith, t .whole (omega arith) f, t .few, t .each) in
+      let whole : t .count ≡ n =
+      by-test (ltb (t .count) n) (λ e. t .fit (ltb-true (t .count) n e) ∙ fits-whole d f) (λ e. omega (arith, ltb-false (t .count) n e, t .few, t .each)) in
       ap (λ k. take k (t .values)) whole ∙ t .first ∙ ap (λ k. take k (ordered (queries d))) (sym (length-ordered (queries d))) ∙ take-whole (ordered (queries d))
 
 -- ---- two runs

@@ -8,8 +8,9 @@ pub mod Started
 pub mod Replied
 pub mod Asked
 pub mod Parts
-pub mod Numbers
+pub mod AnyQuery
 pub mod Ran
+pub mod Numbers
 pub mod Agreement
 pub mod Witness
 mod Needed

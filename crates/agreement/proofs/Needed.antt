@@ -6,7 +6,7 @@ use mathlib.Core.Logic.{_↔_}
 use Prim.Native.Nat.{ℕ}
 use native.Mathlib.Omega.{arith}
 use lib.ListN.{length, getD, replicate}
-use Rattle.wire.specs.Answer.{result, unless}
+use Rattle.wire.specs.Answer.{unless}
 use Rattle.wire.specs.Text.{ascii, has, high, isSpace, raised}
 use Rattle.wire.specs.declared.Refusal.the-variants as refusal
 use Rattle.hex.specs.Digits.{hexDigit}
@@ -35,7 +35,7 @@ use Rattle.bench.specs.Deliver.{pieces}
 use Rattle.bench.specs.declared.RunAnswer.the-variants.{Complete, Refused}
 use Rattle.bench.specs.Run.{initialised, part, runSays, recorded, runLent}
 use Rattle.agreement.specs.Lines.{end, next, alone, table}
-use Rattle.agreement.specs.Demand.{GoodQuery, givens, SameFirst, Drive, drive, comesTo, queries, hireRecord, GoodFirst, GoodAll, EveryFits, Holds, HoldsFirst}
+use Rattle.agreement.specs.Demand.{givens, Drive, drive, comesTo, Ran, queries, hireRecord, GoodFirst, GoodAll, EveryFits, Holds, HoldsFirst}
 use Rattle.agreement.proofs.Witness.{
   scriptOf,
   low-at,
@@ -152,9 +152,10 @@ good-apart = good-all apart-run (λ p. 3) (
   ),
 )
 
-not-alone : EveryFits (threeValues crowded) × EveryFits (threeValues apart) × (Equal (threeValues crowded) (threeValues apart) → ⊥)
+not-alone : GoodAll (threeValues apart) × EveryFits (threeValues crowded) × EveryFits (threeValues apart) × (Equal (threeValues crowded) (threeValues apart) → ⊥)
 unfolding readRecord SameRecord lineText replyText hexDigit valueFormat groupBytes j1979
 not-alone = (
+  good-apart,
   fits crowded-run refl,
   fits apart-run refl,
   λ c.
@@ -193,9 +194,10 @@ good-level = good-all level-run (λ p. 3) (
   ((omega arith, ((_, refl, alone 0xE0 (1 ∷ 2 ∷ 3 ∷ []) refl refl), ((_, refl, table _ _ (next 0x0D (0x20 ∷ []) [] _ refl refl end)), tt))), tt),
 )
 
-two-lengths : EveryFits (twoValues longer) × EveryFits (twoValues level) × (Equal (twoValues longer) (twoValues level) → ⊥)
+two-lengths : GoodAll (twoValues level) × EveryFits (twoValues longer) × EveryFits (twoValues level) × (Equal (twoValues longer) (twoValues level) → ⊥)
 unfolding readRecord SameRecord lineText replyText hexDigit valueFormat groupBytes j1979
 two-lengths = (
+  good-level,
   fits longer-run refl,
   fits level-run refl,
   λ c.
@@ -305,12 +307,13 @@ unfolding has high isSpace raised hexDigit digit leading j1979 mode01Lengths gro
     replyTakes pieceSays finishSays script queryFormat exchanged pieces initialised part runSays
 speed-run = record { ran = record { bytes = low-at (scriptOf (speed 0x20)) refl; ran = refl }; reads = refl; handed = refl }
 
-no-byte : (recorded (speedRun 0x120 .run) (speedRun 0x120 .buffer) ≡ runLent (comesTo (speedRun 0x120)) (replicate 8 0)) × (Equal (speedRun 0x120) (speedRun 0x20) → ⊥)
+no-byte : (recorded (speedRun 0x120 .run) (speedRun 0x120 .buffer) ≡ runLent (comesTo (speedRun 0x120)) (replicate 8 0)) × Ran (speedRun 0x20) × (Equal (speedRun 0x120) (speedRun 0x20) → ⊥)
 unfolding readRecord SameRecord has high isSpace raised hexDigit digit leading j1979 mode01Lengths groupBytes lineList valueFormat atKind lineText replyText
     canonical unless byteTaken byteSays bytesSay answerSays replySays queryText textLines textLine replyLines walked answerOrder learnLength initSays
     querySays replyTakes pieceSays finishSays script queryFormat exchanged pieces initialised part runSays
 no-byte = (
   refl,
+  speed-run .ran,
   λ c.
       let e : _≡_ {A = ℕ} 0x120 0x20 = ap byteOf (c .0 ((λ p. refl), tt) .0 0x0D) in
       absurd (omega arith),

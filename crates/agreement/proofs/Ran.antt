@@ -8,7 +8,7 @@ use lib.Dec.{ltb}
 use lib.ListN.{length, take}
 use borrow.Author.Tests.{ltb-true, ltb-false, lt-ltb, le-ltb}
 use Rattle.group.specs.Format.{Each}
-use Rattle.wire.specs.Answer.{Answer, result, refused}
+use Rattle.wire.specs.Answer.{result, refused}
 use Rattle.wire.proofs.Cases.{by-test}
 use Rattle.wire.proofs.All.{Bytes}
 use Rattle.value.specs.Values.{Value, partFormat}
@@ -16,16 +16,16 @@ use Rattle.value.proofs.RecordLaws.{ValuesFit, RecordFits}
 use Rattle.reply.specs.Reply.{replyText}
 use Rattle.reply_values.specs.Values.{answerOrder}
 use Rattle.bench.specs.Script.{Query, script, InLimits}
-use Rattle.bench.proofs.ScriptLaws.{AllAreBytes, script-limits, script-bytes, script-numbers}
+use Rattle.bench.proofs.ScriptLaws.{AllAreBytes, script-limits, script-bytes}
 use Rattle.bench.specs.Run.{Bench, Run, ended, initialised, part, asked, runSays}
 use Rattle.agreement.specs.Vehicle.{given}
-use Rattle.agreement.specs.Ends.{Reach, reach, Limited, Ends}
+use Rattle.agreement.specs.Ends.{Reach, tooLong, reach, Limited}
 use Rattle.agreement.specs.Demand.{GoodQueries, givens, commandOf, commands}
 use Rattle.agreement.proofs.Finished.{answer-reordered}
 use Rattle.agreement.proofs.Started.{Between, started}
 use Rattle.agreement.proofs.Asked.{Ready, Outcome, outcome}
 use Rattle.agreement.proofs.Parts.{ordered, givenPart, part-size, given-fits}
-use Rattle.agreement.proofs.Numbers.{Quiet, Goes, goes-on, overlong, part-goes}
+use Rattle.agreement.proofs.AnyQuery.{Quiet, Goes, goes-on, overlong, part-goes}
 
 abbrev AllReady : List Query → Type 0
 AllReady [] = Unit {0}
@@ -60,7 +60,7 @@ pub reach-few : (room : ℕ) (qs : List Query) (vss : List (List Value)) → rea
 reach-few room [] vss = omega arith
 reach-few room (q ∷ qs) [] = omega arith
 reach-few room (q ∷ qs) (vs ∷ vss) =
-    by-test (ltb 4096 (length (replyText false false true (q .lines))))
+    by-test (tooLong q)
     (λ e. rw e (omega arith))
     (λ e.
     by-test (ltb room (length (partFormat .write vs)))
@@ -114,7 +114,7 @@ module _ (b : Bench) (q : Query) (qs : List Query) where
   -- 8 ends the run
   stops : (n : ℕ) → AllReady (q ∷ qs) → 4096 < length reply → part b q .answer ≡ refused 8 → (0 < n → part b q .handed ≡ commandOf q ∷ []) → Known n (q ∷ qs) runs
   stops n ok m e h =
-      let t = lt-ltb 4096 (length reply) m in
+      let t : tooLong q ≡ true = lt-ltb 4096 (length reply) m in
       record {
         limited = record {
           values = ordered (q ∷ qs);
@@ -134,7 +134,7 @@ module _ (b : Bench) (q : Query) (qs : List Query) where
     abbrev bytes : List ℕ
     bytes = partFormat .write vs
 
-    short : ltb 4096 (length reply) ≡ false
+    short : tooLong q ≡ false
     short = le-ltb 4096 (length reply) few
 
     goes : Limited qs others → Limited (q ∷ qs) runs
@@ -209,7 +209,7 @@ between-quiet L b m = record { turn = m .turn; size = m .size; last = m .last; s
 one-good : (L : ℕ → ℕ) (n : ℕ) (b : Bench) (q : Query) (qs : List Query) → AllReady (q ∷ qs) → Outcome L q (part b q) →
     (Between L (part b q .bench) → Known n qs (λ room. asked room (part b q .bench) qs)) → Known (suc n) (q ∷ qs) (λ room. asked room b (q ∷ qs))
 one-good L n b q qs ok o rest =
-    by-test (ltb 4096 (length (replyText false false true (q .lines))))
+    by-test (tooLong q)
     (λ t. let m = ltb-true 4096 _ t in let f = o .fails m in stops b q qs (suc n) ok m (f .answer) (λ h. f .handed))
     (λ t. let m = ltb-false 4096 _ t in let g = o .gives m in goes-good b q qs m (ready-fits (q ∷ qs) ok .0) (g .answer) (g .handed) n (rest (g .between)))
 
@@ -243,15 +243,7 @@ module _ (repeat : Bool) (ks s : List ℕ) (bytes : Bytes s) where
       (λ i. record { answer = k .limited .answer room i; parts = (k .limited .parts room ∙ ap (map (partFormat .write)) first) i; handed = k .handed room inside i }) ∙
       ap (λ (r : Reach). record { answer = r .answer; parts = map (partFormat .write) (take (r .fit) (ordered qs)); handed = take (suc (r .fit)) (commands qs) }) same
 
-  -- a script that is refused gets 3 or 5
+  -- a script that is refused is not run
   pub run-refused : (n room : ℕ) → script s ≡ refused n → runSays repeat ks room s ≡ ended n []
   unfolding runSays
   run-refused n room e = rw e refl
-
-  by-script : (a : Answer (List Query)) → script s ≡ a → Ends a (λ room. runSays repeat ks room s)
-  by-script (refused n) e = (script-numbers s n e, λ room. run-refused n room e)
-  by-script (result qs) e = run-known (λ p. 0) 0 qs e tt .limited
-
-  -- what ends a run, on every script, which is bytes
-  pub run-ends : Ends (script s) (λ room. runSays repeat ks room s)
-  run-ends = by-script (script s) refl

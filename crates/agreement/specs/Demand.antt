@@ -7,7 +7,7 @@ use mathlib.Core.Logic.{_↔_}
 use mathlib.Core.List.{List, [], _∷_, map}
 use Prim.Native.Nat.{ℕ, suc, _≤_, _<_}
 use lib.ListN.{length, take, getD}
-use Rattle.wire.specs.Answer.{Answer, result, refused, ifResult}
+use Rattle.wire.specs.Answer.{result, ifResult}
 use Rattle.group.specs.Group.{Read, got, failed, listOf}
 use Rattle.value.specs.Values.{Value, readRecord}
 use Rattle.value.specs.Same.{SameQueries, SameReadings, SameRecord}
@@ -109,6 +109,8 @@ pub record Holds (d : Drive) : Type 0 where
   -- the parts stand of just those queries, from the first on, that fit the limits; and what ended the run, or that nothing did
   pub stand : partsStanding d ≡ reaches d .fit
   pub answer : runAnswer (d .run .answer) ≡ reaches d .answer
+  -- and where every query fits, each has its part
+  pub whole : EveryFits d → partsStanding d ≡ length (queries d)
   -- "the OBD commands handed to the vehicle are exactly the queries' own texts less spaces, one for each query in the list's order, repeats included"; where 8 or
   -- 6 ends the run, up to the query that ended it
   pub handed : comesTo d .handed ≡ take (suc (partsStanding d)) (commands (queries d))

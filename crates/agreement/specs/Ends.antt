@@ -1,7 +1,7 @@
 -- Document 01, "The bench run": "3 and 5 come before anything runs; 8, or 6 when a query's part overruns the record buffer, ends the run there, and the answer holds
 -- the number and the length of the earlier parts, which stand written." What ends a run, on every script.
 use mathlib.Core.Path.{_≡_}
-use mathlib.Core.Bool.{true, false, cond}
+use mathlib.Core.Bool.{Bool, true, false, cond}
 use mathlib.Core.List.{List, [], _∷_, map}
 use mathlib.Core.Logic.{_⊎_}
 use Prim.Native.Nat.{ℕ, suc, _-_}
@@ -22,14 +22,18 @@ pub record Reach : Type 0 where
 abbrev pub stopped : ℕ → Reach
 stopped n = record { fit = 0; answer = refused n }
 
--- 8 exactly where a reply has over 4,096 bytes, under the settings that the initialisation leaves (no linefeeds, no spaces, headers); else 6 exactly where a part
--- overruns the room that is left in the record. The two lists go together: the queries, and the values of each
+-- the reply to a query has over 4,096 bytes, under the settings that the initialisation leaves: no linefeeds, no spaces, headers
+abbrev pub tooLong : Query → Bool
+tooLong q = ltb 4096 (length (replyText false false true (q .lines)))
+
+-- 8 exactly where a reply is too long, and else 6 exactly where a part overruns the room that is left in the record. The two lists go together: the queries, and the
+-- values of each
 abbrev pub reach : ℕ → List Query → List (List Value) → Reach
 reach room [] vss = record { fit = 0; answer = result tt }
 reach room (q ∷ qs) [] = record { fit = 0; answer = result tt }
 reach room (q ∷ qs) (vs ∷ vss) =
     let rest = reach (room - length (partFormat .write vs)) qs vss in
-    cond (ltb 4096 (length (replyText false false true (q .lines)))) (stopped 8)
+    cond (tooLong q) (stopped 8)
     (cond (ltb room (length (partFormat .write vs))) (stopped 6) (record { fit = suc (rest .fit); answer = rest .answer }))
 
 -- What ends the runs of some queries, in record buffers of any size: each query has its values, whatever the room, and the parts stand of those that fit.

@@ -6,7 +6,7 @@ use Prim.Native.Nat.{ℕ, _/_, _%_, _<_}
 use native.Mathlib.Omega.{arith}
 use lib.Dec.{T, eqb}
 use lib.ListN.{length, getD}
-use Rattle.wire.specs.Text.{any}
+use Rattle.wire.specs.Text.{ascii, any}
 use Rattle.wire.proofs.Cases.{unless, at-below}
 use Rattle.wire.proofs.All.{All}
 use Rattle.wire.proofs.TextLaws.{any-none}
@@ -15,7 +15,7 @@ use Rattle.group.specs.Format.{Each}
 use Rattle.line_list.specs.Lines.{Line, Fits}
 use Rattle.client_state.specs.Settings.{Settings}
 use Rattle.reply.specs.Shape.{chipReply}
-use Rattle.reply.specs.Reply.{spaceIf, dataHex, lineText, lineTexts}
+use Rattle.reply.specs.Reply.{spaceIf, dataHex, lineText, replyText}
 use Rattle.reply.proofs.ByteLaws.{line-all}
 use Rattle.shape.specs.Datasheet.{breaksLine, Framed, prompt, lineThen, capitals, fills, pairsForm, dataForm}
 use Rattle.shape.specs.Sent.{DataLines, ReplyLines}
@@ -50,9 +50,19 @@ lines-plain : (spaces headers : Bool) (ls : List Line) → Plain (map (lineText 
 lines-plain spaces headers [] = tt
 lines-plain spaces headers (l ∷ ls) = (line-plain spaces headers l, lines-plain spaces headers ls)
 
-pub texts-plain : (spaces headers : Bool) (ls : List Line) → Plain (lineTexts spaces headers ls)
+-- the lines that a reply is written with
+abbrev pub lineTexts : Bool → Bool → List Line → List (List ℕ)
+lineTexts spaces headers [] = ascii "NO DATA" ∷ []
+lineTexts spaces headers (l ∷ ls) = map (lineText spaces headers) (l ∷ ls)
+
+texts-plain : (spaces headers : Bool) (ls : List Line) → Plain (lineTexts spaces headers ls)
 texts-plain spaces headers [] = (refl, tt)
 texts-plain spaces headers (l ∷ ls) = lines-plain spaces headers (l ∷ ls)
+
+pub reply-framed : (linefeeds spaces headers : Bool) (ls : List Line) → Framed linefeeds (lineTexts spaces headers ls) (replyText linefeeds spaces headers ls)
+unfolding replyText
+reply-framed linefeeds spaces headers [] = chip-framed linefeeds _ (texts-plain spaces headers [])
+reply-framed linefeeds spaces headers (l ∷ ls) = chip-framed linefeeds _ (texts-plain spaces headers (l ∷ ls))
 
 -- ---- the form of a data line
 

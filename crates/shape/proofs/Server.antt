@@ -19,7 +19,6 @@ use Rattle.at_command.specs.declared.AtKind.{AtKind}
 use Rattle.at_command.specs.declared.AtKind.the-variants.{Reset, Set, Accepted, Identity, Voltage, Protocol, ProtocolNumber, Unknown}
 use Rattle.at_command.specs.declared.IdentityText.the-variants.{Ati, Device}
 use Rattle.reply.specs.Shape.{chipReply}
-use Rattle.reply.specs.Reply.{lineTexts, replyText}
 use Rattle.server_session.specs.Session.{Session}
 use Rattle.server_session.specs.Call.{ServerSaid}
 use Rattle.server_session.specs.Replies.{answerSays, lastAfter, replySays, rejectSays}
@@ -28,7 +27,7 @@ use Rattle.server_session.proofs.ByteLaws.{byte-by, afterText, taken-cr, taken-
 use Rattle.server_session.proofs.BytesLaws.{bytes-on, bytes-stop}
 use Rattle.shape.specs.Datasheet.{breaksLine}
 use Rattle.shape.specs.Sent.{Sends, Replies, Echoes, silent, back, unclear}
-use Rattle.shape.proofs.Lines.{Plain, chip-framed, texts-plain, texts-fill}
+use Rattle.shape.proofs.Lines.{Plain, chip-framed, lineTexts, reply-framed, texts-fill}
 
 -- ---- AT commands
 
@@ -64,11 +63,11 @@ lines-fit list (failed n) q = tt
 lines-fit list (got ls rest) q = list-got list ls rest q .fit
 
 pub reply-shaped : (room : ℕ) (s : Session) (list : List ℕ) → Replies (s .state) (listOf (lineList list)) (replySays room s list)
-unfolding replySays replyText
+unfolding replySays
 reply-shaped room s list =
     let ls = listOf (lineList list) in
     let texts = lineTexts (s .state .spaces) (s .state .headers) ls in
-    let framed = chip-framed (s .state .linefeeds) texts (texts-plain (s .state .spaces) (s .state .headers) ls) in
+    let framed = reply-framed (s .state .linefeeds) (s .state .spaces) (s .state .headers) ls in
     record { lines = texts; form = texts-fill (s .state) ls (lines-fit list (lineList list) refl); sends = unless-by (λ d. Sends d texts) _ (λ n. refl) (λ _. rw (last-linefeeds ls s) framed) }
 
 -- with a text that holds no byte of the frame
@@ -84,13 +83,13 @@ record Heard (s : Session) (b : ℕ) (d : ServerSaid) : Type 0 where
   before : (bs rest : List ℕ) → Echoes (s .state) bs rest → Echoes (s .state) (take (d .taken) (b ∷ []) ++ bs) (d .text ++ rest)
 
 module _ (s : Session) (b : ℕ) where
-  empty-heard : b ≡ 13 → (last : List ℕ) → Heard s b (afterText (echoed s b) (emptyLine s [] last))
+  empty-heard : b ≡ 13 → (last : List ℕ) → Heard s b (afterText (echoed s (b ∷ [])) (emptyLine s [] last))
   empty-heard e [] =
       let text = chipReply (s .state .linefeeds) (ascii "?" ∷ []) in
       rw e (record { kept = refl; before = λ bs rest t. rw append-assoc (unclear bs text rest (chip-framed (s .state .linefeeds) (ascii "?" ∷ []) (refl, tt)) t) })
   empty-heard e (c ∷ last) = record { kept = refl; before = λ bs rest t. rw append-nil (back b bs rest t) }
 
-  end-heard : b ≡ 13 → (command : List ℕ) → Heard s b (afterText (echoed s b) (lineEnd s [] command))
+  end-heard : b ≡ 13 → (command : List ℕ) → Heard s b (afterText (echoed s (b ∷ [])) (lineEnd s [] command))
   end-heard e [] = empty-heard e (s .state .last)
   end-heard e (c ∷ cs) = record { kept = refl; before = λ bs rest t. rw append-nil (back b bs rest t) }
 
