@@ -95,17 +95,21 @@ outBuffer = replicate 80 9
 abbrev pub clientExamples : List Example
 clientExamples =
     example "a query goes out" (clientLent started outBuffer) (clientStep (record { answer = answer.Sent; written = 5; session = clientHolding 0 }) (ascii "010C\r" ++ replicate 75 9)) ∷
-    example "a piece of its reply is stored" (clientLent (pieceSays 80 (started .next) (ascii "41") emptyStore) outBuffer) (clientStep (record { answer = answer.Awaited; written = 0; session = clientHolding 2 }) outBuffer) ∷
+    example "a piece of its reply is stored" (clientLent (pieceSays 80 (started .next) (ascii "41") emptyStore) outBuffer)
+    (clientStep (record { answer = answer.Awaited; written = 0; session = clientHolding 2 }) outBuffer) ∷
     example "after what the store holds of it" (storeAfter (client (clientHolding 2)) (result awaited) (ascii "0C") (ascii "41" ++ replicate 4094 0)) (ascii "410C" ++ replicate 4092 0) ∷
-    example "but for the answer to ATZ, and a piece that gets a number" (storeAfter initialising (result sent) (ascii "41") emptyStore ∷ storeAfter (started .next) (refused 3) (ascii "41") emptyStore ∷ [])
+    example "but for the answer to ATZ, and a piece that gets a number"
+    (storeAfter initialising (result sent) (ascii "41") emptyStore ∷ storeAfter (started .next) (refused 3) (ascii "41") emptyStore ∷ [])
     (emptyStore ∷ emptyStore ∷ []) ∷
     example "as in a delivery, which uses up a piece length" (deliveryLent (delivered 80 (started .next) emptyStore (2 ∷ 9 ∷ []) (ascii "41")) outBuffer)
     (deliveryStep (2 ∷ 9 ∷ []) (record { answer = answer.Awaited; written = 0; session = clientHolding 2; used = 1 }) (ascii "41" ++ replicate 4094 0) outBuffer) ∷
     example "a query again, and a `?` for it" (firstQuery .text ∷ queryAgain .text ∷ reply (queryAgain .next) "?\r\r>" .text ∷ []) (ascii "010C 1\r" ∷ ascii "\r" ∷ ascii "010C 1\r" ∷ []) ∷
-    example "repeat after a `?`, and after another reply" (reply (queryAgain .next) "?\r\r>" .next .server .repeat ∷ reply (queryAgain .next) "NO DATA\r\r>" .next .server .repeat ∷ []) (support.No ∷ support.Yes ∷ []) ∷
+    example "repeat after a `?`, and after another reply"
+    (reply (queryAgain .next) "?\r\r>" .next .server .repeat ∷ reply (queryAgain .next) "NO DATA\r\r>" .next .server .repeat ∷ []) (support.No ∷ support.Yes ∷ []) ∷
     example "what these replies come to" (reply (queryAgain .next) "?\r\r>" .answer ∷ reply (queryAgain .next) "NO DATA\r\r>" .answer ∷ []) (result sent ∷ result complete ∷ []) ∷
     example "another query goes out in full" (querySays 80 afterFirst (0x0C ∷ []) 3 false .text) (ascii "010C 2\r") ∷
-    example "the initialisation" (initSays 80 afterFirst .text ∷ sentAfter 6 initialising) (ascii "ATZ\r" ∷ ascii "ATE0\r" ∷ ascii "ATL0\r" ∷ ascii "ATS0\r" ∷ ascii "ATSP0\r" ∷ ascii "ATH1\r" ∷ [] ∷ []) ∷
+    example "the initialisation" (initSays 80 afterFirst .text ∷ sentAfter 6 initialising)
+    (ascii "ATZ\r" ∷ ascii "ATE0\r" ∷ ascii "ATL0\r" ∷ ascii "ATS0\r" ∷ ascii "ATSP0\r" ∷ ascii "ATH1\r" ∷ [] ∷ []) ∷
     example "with no framing wanted" (sentAfter 5 (initSays 80 (freshClient false true) .next)) (ascii "ATE0\r" ∷ ascii "ATL0\r" ∷ ascii "ATS0\r" ∷ ascii "ATSP0\r" ∷ ascii "ATH0\r" ∷ []) ∷
     example "its last reply sets framing" (afterOks 5 initialising .server .framing ∷ afterOks 6 initialising .server .framing ∷ []) (false ∷ true ∷ []) ∷
     example "a failed read while ATZ's answer is awaited" (failureSays 80 initialising failure.Read .text) (ascii "ATE0\r") ∷
@@ -118,16 +122,21 @@ clientExamples =
     example "raw commands out of turn, too long, not ASCII, and with little room"
     (commandSays 80 (firstQuery .next) [] .answer ∷ commandSays 80 new (replicate 65 65) .answer ∷ commandSays 80 new (0x80 ∷ []) .answer ∷ commandSays 79 new [] .answer ∷ [])
     (refused 1 ∷ refused 3 ∷ refused 4 ∷ refused 6 ∷ []) ∷
-    example "6 bytes after 4,090, and 7" (pieceSays 80 nearlyFull (ascii "41\r\r>\r") fullStore .answer ∷ pieceSays 80 nearlyFull (ascii "410D\r\r>") fullStore .answer ∷ []) (result complete ∷ refused 8 ∷ []) ∷
+    example "6 bytes after 4,090, and 7"
+    (pieceSays 80 nearlyFull (ascii "41\r\r>\r") fullStore .answer ∷ pieceSays 80 nearlyFull (ascii "410D\r\r>") fullStore .answer ∷ []) (result complete ∷ refused 8 ∷ []) ∷
     example "an empty piece, a byte of 80, a piece of 129 bytes, and little room" (reply (queryAgain .next) "" .answer ∷ pieceSays 80 (queryAgain .next) (0x80 ∷ 62 ∷ []) emptyStore .answer ∷
     pieceSays 80 (queryAgain .next) (replicate 129 65) emptyStore .answer ∷ pieceSays 79 (queryAgain .next) (65 ∷ []) emptyStore .answer ∷ []) (refused 7 ∷ refused 9 ∷ refused 3 ∷ refused 6 ∷ []) ∷
     example "an empty piece forgets the last query" (reply (queryAgain .next) "" .next .last) [] ∷
-    example "and marks untested multi-PID support No" (reply (querySays 80 afterFirst (0x0C ∷ 0x0D ∷ []) 0 true .next) "" .next .server .«multi_pid» ∷ reply (queryAgain .next) "" .next .server .«multi_pid» ∷ []) (support.No ∷ support.Unknown ∷ []) ∷
-    example "failures out of turn, with little room, and of a query" (failureSays 80 afterFirst failure.Write .answer ∷ failureSays 79 (firstQuery .next) failure.Write .answer ∷ failureSays 80 (firstQuery .next) failure.Read .answer ∷ [])
+    example "and marks untested multi-PID support No"
+    (reply (querySays 80 afterFirst (0x0C ∷ 0x0D ∷ []) 0 true .next) "" .next .server .«multi_pid» ∷ reply (queryAgain .next) "" .next .server .«multi_pid» ∷ [])
+    (support.No ∷ support.Unknown ∷ []) ∷
+    example "failures out of turn, with little room, and of a query"
+    (failureSays 80 afterFirst failure.Write .answer ∷ failureSays 79 (firstQuery .next) failure.Write .answer ∷ failureSays 80 (firstQuery .next) failure.Read .answer ∷ [])
     (refused 1 ∷ refused 6 ∷ refused 7 ∷ []) ∷
     example "the numbers of the client's calls" (map (λ q. clientAnswer (answer.Refused q)) (OutOfTurn ∷ PidCount ∷ TooLong ∷ NotAscii ∷ SmallBuffer ∷ [])) (map refused (1 ∷ 2 ∷ 3 ∷ 4 ∷ 6 ∷ [])) ∷
     example "and of the far side" (map (λ q. clientAnswer (answer.Failed q)) (Disconnected ∷ ReplyTooLong ∷ ReplyNotAscii ∷ [])) (map refused (7 ∷ 8 ∷ 9 ∷ [])) ∷
-    example "what else a call says" (map clientAnswer (answer.Sent ∷ answer.Awaited ∷ answer.Over ∷ answer.Complete ∷ answer.Values 2 ∷ [])) (map result (sent ∷ awaited ∷ over ∷ complete ∷ values 2 ∷ [])) ∷
+    example "what else a call says" (map clientAnswer (answer.Sent ∷ answer.Awaited ∷ answer.Over ∷ answer.Complete ∷ answer.Values 2 ∷ []))
+    (map result (sent ∷ awaited ∷ over ∷ complete ∷ values 2 ∷ [])) ∷
     example "pieces up to the one that completes the reply" (fed 80 (firstQuery .next) emptyStore inPieces .said .answer) (result complete) ∷
     example "the piece that is left" (fed 80 (firstQuery .next) emptyStore inPieces .left) (ascii "x" ∷ []) ∷
     example "the pieces joined" (joined inPieces) (ascii "410C1AF8\r\r>x") ∷

@@ -72,19 +72,22 @@ learning =
     example "E0 with two lengths: two values" (readUnlike 18 .answer) (result 2) ∷
     example "in 17 bytes" (readUnlike 18 .written) 17 ∷
     example "its values" (readUnlike 18 .out) (0xE0 ∷ 0xE9 ∷ 0x0F ∷ 0x04 ∷ 0x41 ∷ 0xE0 ∷ 1 ∷ 2 ∷ 0xE0 ∷ 0xEA ∷ 0x0F ∷ 0x05 ∷ 0x41 ∷ 0xE0 ∷ 1 ∷ 2 ∷ 3 ∷ 9 ∷ []) ∷
-    example "no length is learned" (lengthIn (readUnlike 18 .server .«pid_lengths») 0xE0 ∷ lengthIn (finishWith (querySays 80 framed (0xE0 ∷ []) 0 false) unlike .next .server .«pid_lengths») 0xE0 ∷ []) (none ∷ none ∷ []) ∷
+    example "no length is learned"
+    (lengthIn (readUnlike 18 .server .«pid_lengths») 0xE0 ∷ lengthIn (finishWith (querySays 80 framed (0xE0 ∷ []) 0 false) unlike .next .server .«pid_lengths») 0xE0 ∷ []) (none ∷ none ∷ []) ∷
     example "with room for 16 bytes nothing is learned or written" (readUnlike 16) (replyRead (record { answer = count.Refused SmallBuffer; written = 0; server = framed .server }) (replicate 16 9)) ∷
     example "which is 6, and 8 for a reply over 4,096 bytes" (readUnlike 16 .answer ∷ readE0 (replicate 4097 13) [] .answer ∷ []) (refused 6 ∷ refused 8 ∷ []) ∷
     example "a length of 1 that is learned cuts the value after it, and the byte left is a PID without data" (unframedE0 .text)
     (0xE0 ∷ 0 ∷ 3 ∷ 0x41 ∷ 0xE0 ∷ 0x01 ∷ 0x0D ∷ 0 ∷ 3 ∷ 0x41 ∷ 0x0D ∷ 0x20 ∷ 0xE0 ∷ 0 ∷ 3 ∷ 0x41 ∷ 0xE0 ∷ 0x01 ∷ 0x02 ∷ 0 ∷ 2 ∷ 0x41 ∷ 0x02 ∷ []) ∷
     example "the counts of E0, 0D and 02 are 2, 1 and 1" (map (countIn (unframedE0 .next .server .«ecu_counts»)) (0xE0 ∷ 0x0D ∷ 0x02 ∷ [])) (3 ∷ 2 ∷ 2 ∷ []) ∷
     example "`query_pids` of E0 alone learns no length" (lengthIn (finishWith (querySays 80 framed (0xE0 ∷ []) 0 true) alike .next .server .«pid_lengths») 0xE0) none ∷
-    example "a length of 0, and data over 255 bytes" (map (λ (d : List ℕ). lengthIn (learnLength mode01Lengths 0xE0 (line 0 (0x41 ∷ 0xE0 ∷ d) ∷ [])) 0xE0) ([] ∷ replicate 256 0 ∷ [])) (some 0 ∷ none ∷ []) ∷
+    example "a length of 0, and data over 255 bytes"
+    (map (λ (d : List ℕ). lengthIn (learnLength mode01Lengths 0xE0 (line 0 (0x41 ∷ 0xE0 ∷ d) ∷ [])) 0xE0) ([] ∷ replicate 256 0 ∷ [])) (some 0 ∷ none ∷ []) ∷
     example "multi-PID support by 0C for 0C and 0C, for 0C and 0D, and for 0C"
     (map (λ (pids : List ℕ). finishWith (querySays 80 framed pids 0 true) "7E804410C1AF8\r\r>" .next .server .«multi_pid») ((0x0C ∷ 0x0C ∷ []) ∷ (0x0C ∷ 0x0D ∷ []) ∷ (0x0C ∷ []) ∷ []))
     (support.Yes ∷ support.No ∷ support.No ∷ []) ∷
     example "counts: two lines unframed, of one ECU, of two, and card 4's of an unknown one"
-    (countAfter new 0x0C "410C1AF8\r410C1AF8\r\r>" ∷ countAfter framed 0x0C "7E804410C1AF8\r7E804410C1AF8\r\r>" ∷ countAfter framed 0x0C "7E804410C1AF8\r7E904410C1AF8\r\r>" ∷ countAfter framed 0x31 "A12\r\r>" ∷ [])
+    (countAfter new 0x0C "410C1AF8\r410C1AF8\r\r>" ∷ countAfter framed 0x0C "7E804410C1AF8\r7E804410C1AF8\r\r>" ∷
+    countAfter framed 0x0C "7E804410C1AF8\r7E904410C1AF8\r\r>" ∷ countAfter framed 0x31 "A12\r\r>" ∷ [])
     (3 ∷ 2 ∷ 3 ∷ 0 ∷ []) ∷
     example "a count is learned once" (countAfter (finishWith (querySays 80 framed (0x0C ∷ []) 0 false) "7E804410C1AF8\r\r>" .next) 0x0C "7E804410C1AF8\r7E904410C1AF8\r\r>") 2 ∷
     example "256 occurrences" (ecusGiving false (replicate 256 (value 0x0C 0 []))) 255 ∷

@@ -74,7 +74,8 @@ serverExamples =
     example "a line is echoed, and its command handed out" (serverLent (bytesSay 16 freshSession (ascii "01 0d\rA")) (replicate 16 9))
     (serverStep (record { answer = answer.ObdCommand; taken = 6; written = 6; session = serverHolding "" "010D" ObdCommand }) (ascii "01 0d\r" ++ replicate 10 9)) ∷
     example "LF is echoed and not stored" (bytesSay 64 freshSession (ascii "A\nT") .text ∷ bytesSay 64 freshSession (ascii "A\nT") .next .line ∷ []) (ascii "A\nT" ∷ ascii "AT" ∷ []) ∷
-    example "a byte of 80, room for 7, and a command handed out" (byteSays 64 freshSession 0x80 .answer ∷ byteSays 7 freshSession 65 .answer ∷ byteSays 64 (afterLine freshSession "010D") 65 .answer ∷ [])
+    example "a byte of 80, room for 7, and a command handed out"
+    (byteSays 64 freshSession 0x80 .answer ∷ byteSays 7 freshSession 65 .answer ∷ byteSays 64 (afterLine freshSession "010D") 65 .answer ∷ [])
     (refused 11 ∷ refused 6 ∷ refused 1 ∷ []) ∷
     example "a reply becomes the last command" (serverLent (replySays 13 (afterLine freshSession "010D") speedLine) (replicate 14 9))
     (serverStep (record { answer = answer.Reading; taken = 0; written = 13; session = serverHolding "010D" "" Reading }) (withPrompt "41 0D 20" ++ (9 ∷ []))) ∷
@@ -98,8 +99,8 @@ serverExamples =
     (countWritten (count.Refused SmallBuffer) (replicate 12 9) ∷ countWritten (count.Refused Malformed) (9 ∷ []) ∷ []) ∷
     example "the chip's replies, with linefeeds off" (chipReply false (ascii "7E804410C1AF8" ∷ ascii "7E904410C1AF8" ∷ [])) (ascii "7E804410C1AF8\r7E904410C1AF8\r\r>") ∷
     example "AT answers after the echo" (map (atSends freshSession) ("ATRV" ∷ "ATDP" ∷ "ATDPN" ∷ "ATI" ∷ "AT@1" ∷ "at st 96" ∷ "AT" ∷ "ATDPX" ∷ []))
-    (withPrompt "ATRV\r12.6V" ∷ withPrompt "ATDP\rAUTO, ISO 15765-4 (CAN 11/500)" ∷ withPrompt "ATDPN\rA6" ∷ withPrompt "ATI\rELM327 v1.5" ∷ withPrompt "AT@1\rELM327" ∷ withPrompt "at st 96\rOK" ∷ withPrompt "AT\r?" ∷
-    withPrompt "ATDPX\r?" ∷ []) ∷
+    (withPrompt "ATRV\r12.6V" ∷ withPrompt "ATDP\rAUTO, ISO 15765-4 (CAN 11/500)" ∷ withPrompt "ATDPN\rA6" ∷ withPrompt "ATI\rELM327 v1.5" ∷
+    withPrompt "AT@1\rELM327" ∷ withPrompt "at st 96\rOK" ∷ withPrompt "AT\r?" ∷ withPrompt "ATDPX\r?" ∷ []) ∷
     example "settings after ATE0, ATL0, ATS0, ATSP0 and ATH1" (afterAnswers freshSession quiet .state) (record { echo = false; linefeeds = false; spaces = false; headers = true; last = [] }) ∷
     example "an answer under them" (atSends (afterAnswers freshSession quiet) "ATI") (ascii "ELM327 v1.5\r\r>") ∷
     example "ATZ after them and after a reply" (atSends (afterAnswers afterReply quiet) "ATZ") (withPrompt "\r\n\r\nELM327 v1.5") ∷
@@ -109,7 +110,8 @@ serverExamples =
     (answerSays 48 freshSession [] [] .answer ∷ answerSays 48 (afterLine freshSession "ATRV") [] (replicate 33 65) .answer ∷
     answerSays 48 (afterLine freshSession "ATRV") (0x80 ∷ []) [] .answer ∷ answerSays 47 (afterLine freshSession "ATRV") [] [] .answer ∷ [])
     (refused 1 ∷ refused 3 ∷ refused 4 ∷ refused 6 ∷ []) ∷
-    example "the identity strings of ATI and AT@1" (map (λ (c : List ℕ). kindLines (ascii "ELM327 v1.5") (ascii "ELM327") (atKind c)) (ascii "ATI" ∷ ascii "AT@1" ∷ [])) ((ascii "ELM327 v1.5" ∷ []) ∷ (ascii "ELM327" ∷ []) ∷ []) ∷
+    example "the identity strings of ATI and AT@1"
+    (map (λ (c : List ℕ). kindLines (ascii "ELM327 v1.5") (ascii "ELM327") (atKind c)) (ascii "ATI" ∷ ascii "AT@1" ∷ [])) ((ascii "ELM327 v1.5" ∷ []) ∷ (ascii "ELM327" ∷ []) ∷ []) ∷
     example "an exchange" (exchanged 60 freshSession (ascii "AT@1\r") speedLine) (record { next = freshSession; text = withPrompt "AT@1\rELM327"; handed = [] }) ∷
     example "what an exchange sends for a query" (exchanged 60 freshSession (ascii "010D\r") speedLine .text) (withPrompt "010D\r41 0D 20") ∷
     example "and hands out" (exchanged 60 freshSession (ascii "010D\r") speedLine .handed) (ascii "010D" ∷ []) ∷
