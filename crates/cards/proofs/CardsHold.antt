@@ -37,7 +37,7 @@ unfolding has high isSpace raised hexDigit digit leading j1979 mode01Lengths gro
     replyTakes pieceSays finishSays
 cards-hold =
     refl & refl & refl & refl & refl & refl & refl & refl & refl & refl &
-    refl & refl & refl & refl & tt
+    refl & refl & refl & refl & refl & tt
 
 -- card 13: six PIDs pass, seven get 2; byte 128 of a line is stored, the next gets 10
 pub six-pids : querySays 80 (freshClient true true) (replicate 6 0x0C) 0 true .answer ≡ result sent

@@ -58,6 +58,7 @@ cards =
     card 4 (valuesGiven true "A12\r\r>") (0x31 ∷ 0x00 ∷ 0x03 ∷ 0x41 ∷ 0x31 ∷ 0x32 ∷ []) ∷
     card 5 (valuesGiven false "41 0C 1A F8 0D 20\r\r>") (0x0C ∷ 0 ∷ 4 ∷ 0x41 ∷ 0x0C ∷ 0x1A ∷ 0xF8 ∷ 0x0D ∷ 0 ∷ 3 ∷ 0x41 ∷ 0x0D ∷ 0x20 ∷ []) ∷
     card 6 (linesGiven false "+41\r\r>") (0 ∷ 1 ∷ 0x04 ∷ []) ∷
+    card 6 (valuesGiven false "+41\r\r>") [] ∷
     card 7 (replies fresh (line 0 (0x41 ∷ 0x0D ∷ 0x20 ∷ []))) (ascii "41 0D 20\r\n\r\n>") ∷
     card 8 (replies (settingsOf false false false true) (line 0 (0x41 ∷ 0x0D ∷ 0x20 ∷ []))) (ascii "7E803410D20\r\r>") ∷
     card 9 (replies (settingsOf true true true true) (line 0 [])) (ascii "7E8 00 \r\n\r\n>") ∷
