@@ -29,12 +29,15 @@ use Rattle.client_session.specs.Start.{commandSays, querySays}
 use Rattle.client_session.specs.Piece.{replyTakes, pieceSays}
 use Rattle.client_session.specs.Finish.{finishSays}
 use Rattle.cards.specs.Cards.{cards, Hold}
+use Rattle.cards.proofs.ExampleLaws.{_&_}
 
 pub cards-hold : Hold cards
 unfolding has high isSpace raised hexDigit digit leading j1979 mode01Lengths groupBytes lineList valueFormat atKind lineText replyText canonical
     unless byteTaken byteSays bytesSay answerSays replySays queryText textLines textLine replyLines walked answerOrder learnLength framingEffect commandSays querySays
     replyTakes pieceSays finishSays
-cards-hold = (refl, (refl, (refl, (refl, (refl, (refl, (refl, (refl, (refl, (refl, (refl, (refl, (refl, (refl, tt))))))))))))))
+cards-hold =
+    refl & refl & refl & refl & refl & refl & refl & refl & refl & refl &
+    refl & refl & refl & refl & refl & tt
 
 -- card 13: six PIDs pass, seven get 2; byte 128 of a line is stored, the next gets 10
 pub six-pids : querySays 80 (freshClient true true) (replicate 6 0x0C) 0 true .answer ≡ result sent

@@ -13,10 +13,15 @@ use Rattle.bench.specs.Deliver.{pieces}
 use Rattle.bench.specs.Steps.{delivered}
 use Rattle.cards.specs.Example.{AsExpected}
 use Rattle.cards.specs.Client.{clientExamples, inPieces}
+use Rattle.cards.proofs.ExampleLaws.{_&_}
 
 pub client-holds : AsExpected clientExamples
 unfolding unless raised has high hexDigit queryText framingEffect initSays commandSays querySays replyTakes pieceSays failureSays pieces delivered
-client-holds = (refl, (refl, (refl, (refl, (refl, (refl, (refl, (refl, (refl, (refl, (refl, (refl, (refl, (refl, (refl, (refl, (refl, (refl, (refl, (refl, (refl, (refl, (refl, (refl, (refl, (refl, (refl, (refl, (refl, (refl, (refl, (refl, (refl, tt)))))))))))))))))))))))))))))))))
+client-holds =
+    refl & refl & refl & refl & refl & refl & refl & refl & refl & refl &
+    refl & refl & refl & refl & refl & refl & refl & refl & refl & refl &
+    refl & refl & refl & refl & refl & refl & refl & refl & refl & refl &
+    refl & refl & refl & tt
 
 -- its pieces have 1 to 128 bytes each
 pub sized : Sized inPieces

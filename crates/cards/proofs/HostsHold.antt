@@ -19,13 +19,17 @@ use Rattle.client_session.specs.Piece.{replyTakes, pieceSays, failureSays}
 use Rattle.client_session.specs.Finish.{finishSays}
 use Rattle.cards.specs.Example.{AsExpected}
 use Rattle.cards.specs.Hosts.{hosts, vehicles}
+use Rattle.cards.proofs.ExampleLaws.{_&_}
 
 pub hosts-hold : AsExpected hosts
 unfolding isSpace raised has high hexDigit digit leading j1979 mode01Lengths groupBytes valueFormat queryText textLines textLine replyLines walked
     answerOrder learnLength unless framingEffect initSays commandSays querySays replyTakes pieceSays failureSays finishSays
-hosts-hold = (refl, (refl, (refl, (refl, (refl, (refl, (refl, (refl, (refl, tt)))))))))
+hosts-hold = refl & refl & refl & refl & refl & refl & refl & refl & refl & tt
 
 pub vehicles-hold : AsExpected vehicles
 unfolding isSpace raised has high hexDigit digit leading j1979 mode01Lengths groupBytes valueFormat queryText textLines textLine replyLines walked
     answerOrder learnLength unless framingEffect commandSays querySays replyTakes pieceSays finishSays
-vehicles-hold = (refl, (refl, (refl, (refl, (refl, (refl, (refl, (refl, (refl, (refl, (refl, (refl, (refl, (refl, (refl, (refl, (refl, (refl, (refl, (refl, (refl, (refl, tt))))))))))))))))))))))
+vehicles-hold =
+    refl & refl & refl & refl & refl & refl & refl & refl & refl & refl &
+    refl & refl & refl & refl & refl & refl & refl & refl & refl & refl &
+    refl & refl & tt

@@ -20,13 +20,17 @@ use Rattle.client_session.specs.Piece.{replyTakes, pieceSays}
 use Rattle.client_session.specs.Finish.{finishSays}
 use Rattle.cards.specs.Example.{AsExpected}
 use Rattle.cards.specs.Learning.{learning, numbered}
+use Rattle.cards.proofs.ExampleLaws.{_&_}
 
 pub learning-holds : AsExpected learning
 unfolding isSpace raised has high hexDigit digit leading j1979 mode01Lengths groupBytes valueFormat queryText textLines textLine replyLines walked
     answerOrder learnLength unless readReply framingEffect commandSays querySays replyTakes pieceSays finishSays
-learning-holds = (refl, (refl, (refl, (refl, (refl, (refl, (refl, (refl, (refl, (refl, (refl, (refl, (refl, (refl, (refl, (refl, (refl, (refl, (refl, (refl, (refl, tt)))))))))))))))))))))
+learning-holds =
+    refl & refl & refl & refl & refl & refl & refl & refl & refl & refl &
+    refl & refl & refl & refl & refl & refl & refl & refl & refl & refl &
+    refl & tt
 
 pub numbered-hold : AsExpected numbered
 unfolding isSpace raised has high hexDigit digit leading j1979 mode01Lengths groupBytes valueFormat queryText textLines textLine replyLines walked
     answerOrder learnLength unless readReply framingEffect commandSays querySays replyTakes pieceSays finishSays
-numbered-hold = (refl, (refl, (refl, (refl, (refl, (refl, (refl, tt)))))))
+numbered-hold = refl & refl & refl & refl & refl & refl & refl & tt

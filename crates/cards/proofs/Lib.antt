@@ -1,3 +1,4 @@
+pub mod ExampleLaws
 pub mod CardsHold
 pub mod NumbersHold
 pub mod TextsHold

@@ -19,10 +19,16 @@ use Rattle.bench.specs.Script.{query, InLimits, queryFormat, script}
 use Rattle.bench.specs.Steps.{queryAt, queriesIn}
 use Rattle.cards.specs.Example.{AsExpected}
 use Rattle.cards.specs.Numbers.{numbers, twoParts}
+use Rattle.cards.proofs.ExampleLaws.{_&_}
 
 pub numbers-hold : AsExpected numbers
 unfolding groupBytes groupAt lineList lineAt linesIn putLine putWhole valueFormat readRecord valueAt j1979 mode01Lengths script unless queryFormat queryAt queriesIn
-numbers-hold = (refl, (refl, (refl, (refl, (refl, (refl, (refl, (refl, (refl, (refl, (refl, (refl, (refl, (refl, (refl, (refl, (refl, (refl, (refl, (refl, (refl, (refl, (refl, (refl, (refl, (refl, (refl, (refl, (refl, (refl, (refl, (refl, (refl, (refl, (refl, (refl, (refl, (refl, (refl, (refl, (refl, (refl, tt))))))))))))))))))))))))))))))))))))))))))
+numbers-hold =
+    refl & refl & refl & refl & refl & refl & refl & refl & refl & refl &
+    refl & refl & refl & refl & refl & refl & refl & refl & refl & refl &
+    refl & refl & refl & refl & refl & refl & refl & refl & refl & refl &
+    refl & refl & refl & refl & refl & refl & refl & refl & refl & refl &
+    refl & refl & tt
 
 -- a record equals itself, and bytes that are no record equal nothing
 pub same-parts : SameRecord twoParts twoParts

@@ -13,8 +13,12 @@ use Rattle.server_session.specs.Bytes.{canonical, byteTaken, byteSays, bytesSay
 use Rattle.server_session.specs.Replies.{answerSays, replySays, rejectSays}
 use Rattle.bench.specs.Exchange.{exchanged}
 use Rattle.cards.specs.Example.{AsExpected}
-use Rattle.cards.specs.Server.{server}
+use Rattle.cards.specs.Server.{serverExamples}
+use Rattle.cards.proofs.ExampleLaws.{_&_}
 
-pub server-holds : AsExpected server
+pub server-holds : AsExpected serverExamples
 unfolding high isSpace raised hexDigit lineList atKind lineText replyText putWhole replied replySize canonical unless byteTaken byteSays bytesSay answerSays replySays rejectSays exchanged
-server-holds = (refl, (refl, (refl, (refl, (refl, (refl, (refl, (refl, (refl, (refl, (refl, (refl, (refl, (refl, (refl, (refl, (refl, (refl, (refl, (refl, (refl, (refl, (refl, (refl, (refl, (refl, (refl, (refl, (refl, tt)))))))))))))))))))))))))))))
+server-holds =
+    refl & refl & refl & refl & refl & refl & refl & refl & refl & refl &
+    refl & refl & refl & refl & refl & refl & refl & refl & refl & refl &
+    refl & refl & refl & refl & refl & refl & refl & refl & refl & tt

@@ -12,10 +12,13 @@ use Rattle.reply_lines.specs.Reader.{lineFrom}
 use Rattle.line_list.specs.Lines.{line}
 use Rattle.cards.specs.Example.{AsExpected}
 use Rattle.cards.specs.Texts.{texts}
+use Rattle.cards.proofs.ExampleLaws.{_&_}
 
 pub texts-hold : AsExpected texts
 unfolding isSpace raised has high hexDigit digit leading queryText textLines textLine replyLines lineFrom
-texts-hold = (refl, (refl, (refl, (refl, (refl, (refl, (refl, (refl, (refl, (refl, (refl, (refl, (refl, (refl, (refl, (refl, (refl, (refl, (refl, (refl, tt))))))))))))))))))))
+texts-hold =
+    refl & refl & refl & refl & refl & refl & refl & refl & refl & refl &
+    refl & refl & refl & refl & refl & refl & refl & refl & refl & refl & tt
 
 -- `OK` stored from position 1 on, in a buffer of four bytes and in one of two
 pub put-fits : Put (9 ∷ 9 ∷ 9 ∷ 9 ∷ []) 1 (ascii "OK") 3 (9 ∷ 0x4F ∷ 0x4B ∷ 9 ∷ [])

@@ -14,11 +14,11 @@ use Rattle.group.specs.declared.GroupRead.the-variants as group
 use Rattle.group.specs.Format.{writeRow}
 use Rattle.line_list.specs.Lines.{line, lineFormat, linesBytes}
 use Rattle.line_list.specs.Answers.{listStep, lineAt, linesIn, putLine}
-use Rattle.line_list.specs.declared.LineStep.the-variants as lines
+use Rattle.line_list.specs.declared.LineStep.the-variants as lineSteps
 use Rattle.value.specs.Values.{Value, value, valueFormat, partFormat, readRecord}
 use Rattle.value.specs.Answers.{valueStep, valueAt}
 use Rattle.value.specs.Same.{ofPid}
-use Rattle.value.specs.declared.ValueStep.the-variants as values
+use Rattle.value.specs.declared.ValueStep.the-variants as valueSteps
 use Rattle.pid.specs.J1979.{j1979}
 use Rattle.pid.specs.Lengths.{mode01Lengths, entryLength, lengthIn, dataLength, listed}
 use Rattle.pid.specs.declared.DataLength.the-variants.{Known, Unknown}
@@ -26,8 +26,8 @@ use Rattle.bench.specs.Script.{Query, query, queryFormat, script}
 use Rattle.bench.specs.Steps.{queryAt, queriesIn}
 use Rattle.cards.specs.Example.{Example, example}
 
--- a line of unknown ECU: vehicle speed 20
-abbrev speedLine : List ℕ
+-- a line list: from an unknown ECU, vehicle speed 20
+abbrev pub speedLine : List ℕ
 speedLine = 0x00 ∷ 0x03 ∷ 0x41 ∷ 0x0D ∷ 0x20 ∷ []
 
 -- card 1's value; and a record of two queries, with no value and with one
@@ -66,10 +66,10 @@ numbers =
     example "a number that does not end" (groupAt 511 (0x80 ∷ []) 0) (groupRead (group.Refused Malformed)) ∷
     example "one line" (linesIn speedLine) (countAnswer (count.Is 1)) ∷
     example "its ECU, its data and the next line" (lineAt speedLine 0) (result (some (record { ecu = 0; start = 2; next = 5 }))) ∷
-    example "no line after it" (lineAt speedLine 5) (listStep lines.End) ∷
+    example "no line after it" (lineAt speedLine 5) (listStep lineSteps.End) ∷
     example "an ECU of 4,096 and one of 4,097" (linesIn (0x80 ∷ 0x20 ∷ 0x00 ∷ []) ∷ linesIn (0x81 ∷ 0x20 ∷ 0x00 ∷ []) ∷ []) (result 1 ∷ refused 5 ∷ []) ∷
     example "a line of 256 bytes" (linesIn (0x00 ∷ 0x80 ∷ 0x02 ∷ replicate 256 0)) (countAnswer (count.Refused Malformed)) ∷
-    example "a line cut short" (lineAt (0x00 ∷ 0x03 ∷ 0x41 ∷ []) 0) (listStep (lines.Refused Malformed)) ∷
+    example "a line cut short" (lineAt (0x00 ∷ 0x03 ∷ 0x41 ∷ []) 0) (listStep (lineSteps.Refused Malformed)) ∷
     example "64 and 65 lines" (linesIn (replicate 128 0) ∷ linesIn (replicate 130 0) ∷ []) (result 64 ∷ refused 5 ∷ []) ∷
     example "a line of 7E8" (linesBytes (line 0x7E9 (0x41 ∷ 0x0D ∷ 0x20 ∷ []) ∷ [])) (0xE9 ∷ 0x0F ∷ 0x03 ∷ 0x41 ∷ 0x0D ∷ 0x20 ∷ []) ∷
     example "an ECU+1 of 4,096 and 255 bytes, written" (lineFormat .write (line 4096 (replicate 255 0x20))) longest ∷
@@ -85,7 +85,7 @@ numbers =
     (result (some (record { pid = 0x0D; ecu = 4096; start = 6; next = 6 })) ∷ refused 5 ∷ []) ∷
     example "card 1's value: PID, ECU+1, where its data starts, and the end" (valueAt engineSpeed 0) (result (some (record { pid = 0x0C; ecu = 0x7E9; start = 6; next = 8 }))) ∷
     example "no value after it, and one of another PID than it says" (valueAt engineSpeed 8 ∷ valueAt (0x0D ∷ 0x00 ∷ 0x02 ∷ 0x41 ∷ 0x0C ∷ []) 0 ∷ [])
-    (valueStep values.End ∷ valueStep (values.Refused Malformed) ∷ []) ∷
+    (valueStep valueSteps.End ∷ valueStep (valueSteps.Refused Malformed) ∷ []) ∷
     example "a record of two queries" (readRecord twoParts) (got speeds []) ∷
     example "the same record written" (writeRow partFormat speeds) twoParts ∷
     example "the values of a PID" (ofPid 0x0D (value 0x0C 0 (0x1A ∷ 0xF8 ∷ []) ∷ value 0x0D 0 (0x20 ∷ []) ∷ [])) (value 0x0D 0 (0x20 ∷ []) ∷ []) ∷

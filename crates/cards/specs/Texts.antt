@@ -29,7 +29,8 @@ texts =
     example "a quoted text" (ascii "OK\r>") (0x4F ∷ 0x4B ∷ 0x0D ∷ 0x3E ∷ []) ∷
     example "09 to 0D and 20" (map isSpace (0x08 ∷ 0x09 ∷ 0x0D ∷ 0x0E ∷ 0x20 ∷ 0x21 ∷ [])) (false ∷ true ∷ true ∷ false ∷ true ∷ false ∷ []) ∷
     example "a to z raised" (map raised (ascii "`az{@1")) (ascii "`AZ{@1") ∷
-    example "tests on texts" (same (ascii "ATI") (ascii "ATI") ∷ same (ascii "ATI") (ascii "AT") ∷ begins (ascii "ATI") (ascii "AT") ∷ begins (ascii "A") (ascii "AT") ∷ []) (true ∷ false ∷ true ∷ false ∷ []) ∷
+    example "tests on texts"
+    (same (ascii "ATI") (ascii "ATI") ∷ same (ascii "ATI") (ascii "AT") ∷ begins (ascii "ATI") (ascii "AT") ∷ begins (ascii "A") (ascii "AT") ∷ []) (true ∷ false ∷ true ∷ false ∷ []) ∷
     example "a byte in a text, and bytes of 80 or more" (has 62 (ascii "\r>") ∷ has 62 (ascii "\r") ∷ high (0x7F ∷ []) ∷ high (0x41 ∷ 0x80 ∷ []) ∷ []) (true ∷ false ∷ false ∷ true ∷ []) ∷
     example "digits" (map digit (ascii "0Af+G")) (digitOf (digits.Digit 0) ∷ digitOf (digits.Digit 10) ∷ digitOf (digits.Digit 15) ∷ digitOf digits.Bad ∷ none ∷ []) ∷
     example "ids" (map (λ (s : List ℕ). hexNumber s) (ascii "7e8" ∷ ascii "+12" ∷ ascii "7G8" ∷ ascii "++1" ∷ [])) (some 0x7E8 ∷ some 0x012 ∷ none ∷ none ∷ []) ∷

@@ -24,7 +24,7 @@ use Rattle.server_session.specs.declared.Run.{Run}
 use Rattle.server_session.specs.Session.{Session, isReading}
 use Rattle.server_session.specs.Call.{ServerSaid, serverAnswer, ServerServed, serverLent}
 use Rattle.server_session.specs.Bytes.{withLine, echoed, byteSays, goesOn, bytesSay}
-use Rattle.server_session.specs.Steps.{ByteDoes, Leaves, Serves, Shows, turnSession, isSpecial, RunFits, Ran, Joins}
+use Rattle.server_session.specs.Steps.{ByteDoes, Leaves, Serves, Shows, turnSession, isSpecial, RunFits, LineRun, Joins}
 use Rattle.server_session.proofs.ByteLaws.{reading, text-short, taken-most}
 use Rattle.server_session.proofs.StepLaws.{line-size}
 use Rattle.server_session.proofs.BytesLaws.{after, bytes-on, bytes-stop, echo-append, echo-less, bytes-some}
@@ -57,17 +57,17 @@ put-nothing true out at = put-none out at
 put-nothing false out at = put-none out at
 
 pub ran-none : (line : List ℕ) (len : ℕ) (input : List ℕ) (i : ℕ) (out : List ℕ) (at : ℕ) (echo : Bool) (most : ℕ) →
-    Ran line len input i out at echo most 0 at line out
+    LineRun line len input i out at echo most 0 at line out
 ran-none line len input i out at echo most = record { within = omega arith; plain = refl; joined = rw (add-zero, append-nil (take len line)); sent = put-nothing echo out at; still = λ z. refl }
 
 module _ (line : List ℕ) (len : ℕ) (input : List ℕ) (i : ℕ) (out : List ℕ) (at : ℕ) (echo : Bool) (most n end : ℕ) (l o : List ℕ)
-    (ran : Ran line len input i out at echo most n end l o)
+    (ran : LineRun line len input i out at echo most n end l o)
     (more : n < most) (fits : min len 128 + most ≤ 128) (size : length l ≡ 128) (there : i + most ≤ length input) (plain : isSpecial (getD input (i + n) 0) ≡ false) where
   one-more : take (n + 1) (drop i input) ≡ take n (drop i input) ++ (getD input (i + n) 0 ∷ [])
   one-more = rw add-one (take-suc (drop i input) n 0 (omega (arith, length-drop i input)) ∙ rw (getD-drop i input n 0))
 
   pub ran-more : {o₁ : List ℕ} {next : ℕ} → Put o end (cond echo (getD input (i + n) 0 ∷ []) []) next o₁ →
-      Ran line len input i out at echo most (n + 1) next (set l (len + n) (getD input (i + n) 0)) o₁
+      LineRun line len input i out at echo most (n + 1) next (set l (len + n) (getD input (i + n) 0)) o₁
   ran-more p =
       let place : len + (n + 1) ≡ suc (len + n) = omega arith in
       record {
@@ -118,7 +118,7 @@ module _ (t : Turn) (state : Settings) (line input out : List ℕ) (i at : ℕ) 
   abbrev count : ℕ
   count = run .to .count
 
-  abbrev ran : Ran line (t .len) input i out at (f .echo) (run .most) count (r .at) l o
+  abbrev ran : LineRun line (t .len) input i out at (f .echo) (run .most) count (r .at) l o
   ran = run .to .ran
 
   abbrev fits : RunFits t (f .echo) (length input - i) (length out - at) (run .most)

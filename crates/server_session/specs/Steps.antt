@@ -62,7 +62,7 @@ pub record RunFits (t : Turn) (echo : Bool) (left free most : ℕ) : Type 0 wher
   pub room : 0 < most → cond echo most 0 + 8 ≤ free
 
 -- A run: so many bytes from a position of the input on join a line of len bytes, and are sent back where echo is on, up to a position of the out buffer.
-pub record Ran (line : List ℕ) (len : ℕ) (input : List ℕ) (i : ℕ) (out : List ℕ) (at : ℕ) (echo : Bool) (most count end : ℕ) (line₁ out₁ : List ℕ) : Type 0 where
+pub record LineRun (line : List ℕ) (len : ℕ) (input : List ℕ) (i : ℕ) (out : List ℕ) (at : ℕ) (echo : Bool) (most count end : ℕ) (line₁ out₁ : List ℕ) : Type 0 where
   pub within : count ≤ most
   pub plain : any isSpecial (take count (drop i input)) ≡ false
   pub joined : take (len + count) line₁ ≡ take len line ++ take count (drop i input)
@@ -70,15 +70,15 @@ pub record Ran (line : List ℕ) (len : ℕ) (input : List ℕ) (i : ℕ) (out :
   pub still : count ≡ 0 → line₁ ≡ line
 
 -- The same by where it ends.
-pub record RanTo (line : List ℕ) (len : ℕ) (input : List ℕ) (i : ℕ) (out : List ℕ) (at : ℕ) (echo : Bool) (most : ℕ) (r : Run) (line₁ out₁ : List ℕ) : Type 0 where
+pub record LineRunTo (line : List ℕ) (len : ℕ) (input : List ℕ) (i : ℕ) (out : List ℕ) (at : ℕ) (echo : Bool) (most : ℕ) (r : Run) (line₁ out₁ : List ℕ) : Type 0 where
   pub count : ℕ
   pub ends : r .len ≡ len + count
   pub next : r .next ≡ i + count
-  pub ran : Ran line len input i out at echo most count (r .at) line₁ out₁
+  pub ran : LineRun line len input i out at echo most count (r .at) line₁ out₁
   pub size : length line₁ ≡ 128
 
 -- A run that fits.
 pub record Joins (t : Turn) (echo : Bool) (line input : List ℕ) (i : ℕ) (out : List ℕ) (at : ℕ) (r : Run) (line₁ out₁ : List ℕ) : Type 0 where
   pub most : ℕ
   pub fits : RunFits t echo (length input - i) (length out - at) most
-  pub to : RanTo line (t .len) input i out at echo most r line₁ out₁
+  pub to : LineRunTo line (t .len) input i out at echo most r line₁ out₁

@@ -19,7 +19,7 @@ ghost use Rattle.client_state.specs.Settings.{Settings};
 ghost use Rattle.server_session.specs.Session.{Session, session, freshSession, isReading};
 ghost use Rattle.server_session.specs.Call.{serverRefusing, serverAnswer, serverStep, serverLent};
 ghost use Rattle.server_session.specs.Bytes.{canonical, commandPhase, emptyLine, lineEnd, byteTaken, byteSays, goesOn, bytesSay};
-ghost use Rattle.server_session.specs.Steps.{ByteDoes, Leaves, isSpecial, Shows, turnSession, Serves, RunFits, RanTo, Joins};
+ghost use Rattle.server_session.specs.Steps.{ByteDoes, Leaves, isSpecial, Shows, turnSession, Serves, RunFits, LineRunTo, Joins};
 
 // Who speaks next.
 pub enum Phase {
@@ -262,7 +262,7 @@ fn join_run(
     most: usize,
 ) -> Run
     requires { ⌜ (min len 128 + most ≤ 128) × (length (now line) ≡ 128) × (i + most ≤ length (now input)) ⌝ }
-    ensures { λ r. ⌜ RanTo (now (line .entry)) len (now (input .entry)) i (now (out .entry)) at echo most r (now (line .exit)) (now (out .exit)) ⌝ }
+    ensures { λ r. ⌜ LineRunTo (now (line .entry)) len (now (input .entry)) i (now (out .entry)) at echo most r (now (line .exit)) (now (out .exit)) ⌝ }
 {
     let mut n: usize = 0;
     let mut end = at;
