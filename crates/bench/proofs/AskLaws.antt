@@ -13,10 +13,11 @@ use Rattle.wire.specs.declared.Count.the-variants.{Is, Refused}
 use Rattle.wire.specs.Answer.{Answer, result, refused, number, unless}
 use Rattle.wire.proofs.Cases.{from-no}
 use Rattle.wire.proofs.UnlessLaws.{unless-by}
-use Rattle.value.specs.Values.{Value, valuesBytes}
+use Rattle.value.specs.Values.{valuesBytes}
 use Rattle.reply_lines.specs.Decode.{replyLines}
 use Rattle.reply_values.specs.Values.{valuesOf, answerOrder}
 use Rattle.reply_values.specs.Learn.{lengthsAfter}
+use Rattle.reply_values.proofs.OrderLaws.{order-size}
 use Rattle.reply_values.proofs.SizeLaws.{reply-size}
 use Rattle.server_session.specs.Session.{session}
 use Rattle.client_session.specs.declared.ClientStep.{ClientStep}
@@ -69,10 +70,6 @@ finish-fits room c store =
     (λ _. unless-by Fits _ (λ n. omega arith) (λ _. unless-by Fits _ (λ n. omega arith) (λ (f, _). ltb-false room _ f)))
 
 -- a reply has at most 4,096 bytes, so more room than its values can take makes no difference
-ordered-size : (vs : List Value) → length (valuesBytes (answerOrder vs)) ≡ length (valuesBytes vs)
-unfolding answerOrder
-ordered-size vs = refl
-
 reply-room : (c : Client) (reply : List ℕ) → length reply ≤ 4096 →
     givesValues replyRoom c (readFor c reply) ≡ givesValues valuesRoom c (readFor c reply)
 unfolding unless
@@ -82,7 +79,7 @@ reply-room c reply short =
     let vs = valuesOf lengths ls in
     let few = reply-size lengths (c .server .framing) reply short in
     let text = valuesBytes (answerOrder vs) in
-    rw (le-ltb replyRoom (length text) (omega (arith, ordered-size vs)), le-ltb valuesRoom (length text) (omega (arith, ordered-size vs)))
+    rw (le-ltb replyRoom (length text) (omega (arith, order-size vs)), le-ltb valuesRoom (length text) (omega (arith, order-size vs)))
 
 finish-room : (c : Client) (store : List ℕ) → finishSays replyRoom c store ≡ finishSays valuesRoom c store
 unfolding finishSays

@@ -202,7 +202,7 @@ fn run_checked(script: &[u8], lengths: &[u8], repeat: bool, buffer: &mut [u8]) -
 }
 
 // Runs a script, with the lengths of the pieces that the server's bytes are handed to the client in, and with repeat on or off. The parts stand at the front of
-// the record buffer.
+// the record buffer, each with its values by rising PID.
 pub fn run(script: &[u8], lengths: &[u8], repeat: bool, buffer: &mut [u8]) -> BenchRun
     ensures { λ r. ⌜ recorded r (now (buffer .exit)) ≡
         runLent (runSays repeat (now (lengths .entry)) (length (now (buffer .entry))) (now (script .entry))) (now (buffer .entry)) ⌝ }

@@ -18,6 +18,7 @@ use Rattle.value.proofs.RecordLaws.{ValuesFit, part-back}
 use Rattle.reply_lines.specs.Decode.{replyLines}
 use Rattle.reply_values.specs.Values.{valuesOf, answerOrder}
 use Rattle.reply_values.specs.Learn.{lengthsAfter}
+use Rattle.reply_values.proofs.OrderLaws.{order-fit}
 use Rattle.reply_values.proofs.WalkLaws.{values-fit}
 use Rattle.reply_values.proofs.ReadLaws.{reply-known}
 use Rattle.client_session.specs.Session.{Client}
@@ -40,10 +41,9 @@ AnswersPart (result p) text = IsPart (groupBytes (valueCount p) ++ text)
 abbrev SaysPart : ClientSaid → Type 0
 SaysPart f = AnswersPart (f .answer) (f .text)
 
--- the order of an answer keeps the number of values, and each can be read back
+-- values in the order of an answer can be read back
 ordered-part : (vs : List Value) → ValuesFit vs → IsPart (groupBytes (length (answerOrder vs)) ++ valuesBytes (answerOrder vs))
-unfolding answerOrder
-ordered-part vs h = λ rest. (vs, part-back vs rest h)
+ordered-part vs h = λ rest. (answerOrder vs, part-back (answerOrder vs) rest (order-fit vs h))
 
 -- an id has three digits, so ECU+1 is at most 4,096
 reply-part : (room : ℕ) (c : Client) (reply : List ℕ) → SaysPart (givesValues room c (readFor c reply))

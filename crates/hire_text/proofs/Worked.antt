@@ -1,4 +1,4 @@
--- Document 01's worked example of what `hire` prints of a script, and a malformed one; a run of two parts that a number ended.
+-- Document 01's worked example of what `hire` prints of a script, one with the PIDs in both orders, and a malformed one; a run of two parts that a number ended.
 use mathlib.Core.Path.{_≡_, refl}
 use mathlib.Core.List.{[], _∷_}
 use Rattle.wire.specs.Answer.{refused, unless}
@@ -34,6 +34,15 @@ unfolding has high isSpace raised hexDigit digit leading j1979 mode01Lengths gro
     unless byteTaken byteSays bytesSay answerSays replySays queryText textLines textLine replyLines walked answerOrder learnLength initSays querySays
     replyTakes pieceSays finishSays script queryFormat exchanged pieces initialised part runSays hireText
 example = refl
+
+-- document 02 §1: "values now stand by rising PID, and within a PID in reply order". 7E9 and then 7E8, with 0C and 0D in both orders
+two-ecus : hirePrints (0x02 ∷ 0x0D ∷ 0x0C ∷ 0x00 ∷ 0x02 ∷ 0xEA ∷ 0x0F ∷ 0x06 ∷ 0x41 ∷ 0x0D ∷ 0x20 ∷ 0x0C ∷ 0x1A ∷ 0xF8 ∷
+    0xE9 ∷ 0x0F ∷ 0x06 ∷ 0x41 ∷ 0x0C ∷ 0x00 ∷ 0x01 ∷ 0x0D ∷ 0x21 ∷ []) ≡
+    ascii "04 0C EA 0F 04 41 0C 1A F8 0C E9 0F 04 41 0C 00 01 0D EA 0F 03 41 0D 20 0D E9 0F 03 41 0D 21\n"
+unfolding has high isSpace raised hexDigit digit leading j1979 mode01Lengths groupBytes lineList valueFormat atKind lineText replyText canonical
+    unless byteTaken byteSays bytesSay answerSays replySays queryText textLines textLine replyLines walked answerOrder learnLength initSays querySays
+    replyTakes pieceSays finishSays script queryFormat exchanged pieces initialised part runSays hireText
+two-ecus = refl
 
 -- "a malformed or too long script prints only that"
 malformed : hirePrints (0x01 ∷ 0x0C ∷ []) ≡ ascii "refused 5\n"

@@ -2,6 +2,9 @@ pub mod LengthLaws
 pub mod WalkLaws
 pub mod InLaws
 pub mod CountLaws
+pub mod OrderLaws
 pub mod LineLaws
 pub mod SizeLaws
 pub mod ReadLaws
+pub mod PlaceLaws
+pub mod LearnLaws

@@ -1,11 +1,11 @@
 -- Laws of a reply read as a whole: what stands in the store, and what is answered.
-use mathlib.Core.Path.{_≡_, refl, sym, ap, subst, _∙_}
+use mathlib.Core.Path.{_≡_, refl, sym, ap, _∙_}
 use mathlib.Core.Bool.{Bool}
 use mathlib.Core.List.{List, [], _∷_, map}
 use Prim.Native.Nat.{ℕ, _+_, _*_, _≤_, _<_}
 use native.Mathlib.Omega.{arith}
 use lib.ListN.{length, take}
-use lib.Seq.{sets, take-all}
+use lib.Seq.{sets, take-all, length-take-le}
 use borrow.Author.Tests.{lt-ltb, le-ltb}
 use Rattle.wire.specs.Answer.{result, refused, unless}
 use Rattle.wire.specs.Put.{Put}
@@ -21,25 +21,9 @@ use Rattle.reply_values.specs.Learn.{lengthsAfter, learnCounts, multiAft
 use Rattle.reply_values.specs.Read.{Reading, reading, ReadServed, readReply}
 use Rattle.reply_values.specs.Steps.{valuesIn}
 use Rattle.reply_values.proofs.InLaws.{values-in}
+use Rattle.reply_values.proofs.OrderLaws.{order-count, order-size}
 use Rattle.reply_values.proofs.SizeLaws.{reply-size}
 use Rattle.reply_values.proofs.WalkLaws.{KnownEcus, values-fit}
-
--- The order of an answer: that of the reply
-
--- its number and its size are those of the values in any order
-order-count : (vs : List Value) → length (answerOrder vs) ≡ length vs
-unfolding answerOrder
-order-count vs = refl
-
-order-size : (vs : List Value) → length (valuesBytes (answerOrder vs)) ≡ length (valuesBytes vs)
-unfolding answerOrder
-order-size vs = refl
-
--- so a copy is written in it
-pub order-copy : {out values left : List ℕ} {r : ℕ} → values ≡ valuesBytes (valuesIn values) → Put out 0 values r left →
-    Put out 0 (valuesBytes (answerOrder (valuesIn values))) r left
-unfolding answerOrder
-order-copy {out} {values} {left} {r} h p = subst (λ t. Put out 0 t r left) h p
 
 -- The whole
 
@@ -68,6 +52,12 @@ module _ (framing : Bool) (text lengths : List ℕ) (short : length text ≤ 409
 
   stored-values : valuesIn (take size left) ≡ valuesOf lengths (replyLines framing text)
   stored-values = ap valuesIn stored-front ∙ values-in (valuesOf lengths (replyLines framing text)) (values-fit lengths (replyLines framing text) (reply-known framing text))
+
+  pub stored-length : length (take size left) ≡ size
+  stored-length = length-take-le size left stored-inside
+
+  pub stored-few : length (take size left) ≤ 3 * length text + 3
+  stored-few = omega (arith, stored-length, stored-size, reply-size lengths framing text short)
 
   pub stored-back : take size left ≡ valuesBytes (valuesIn (take size left))
   stored-back = stored-front ∙ ap valuesBytes (sym stored-values)

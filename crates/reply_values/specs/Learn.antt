@@ -10,8 +10,7 @@ use lib.ListN.{length, set}
 use Rattle.wire.specs.Text.{any, has}
 use Rattle.pid.specs.Lengths.{lengthIn}
 use Rattle.line_list.specs.Lines.{Line}
-use Rattle.value.specs.Values.{Value}
-use Rattle.value.specs.Same.{ofPid}
+use Rattle.value.specs.Values.{Value, ofPid}
 use Rattle.server_state.specs.declared.FeatureSupport.{FeatureSupport}
 use Rattle.server_state.specs.declared.FeatureSupport.the-variants as support
 use Rattle.server_state.specs.State.{decided}

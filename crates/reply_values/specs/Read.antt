@@ -1,5 +1,5 @@
 -- What a reply gives and teaches a query. Document 01, client_session.rs: "Finishing learns in the Rust's order: one PID: length, counts, values; several
--- (`query_pids`, even of one PID): counts, values, multi-PID."
+-- (`query_pids`, even of one PID): counts, values, multi-PID." Document 02 §1: "values now stand by rising PID, and within a PID in reply order."
 use mathlib.Core.Bool.{Bool}
 use mathlib.Core.List.{List, [], _∷_}
 use Prim.Native.Nat.{ℕ}
@@ -36,7 +36,8 @@ pub record ReadServed : Type 0 where
   pub server : ServerState
   pub out : List ℕ
 
--- 8 for a reply over 4,096 bytes, and 6 where the values are longer than the buffer: nothing is learned or written
+-- 8 for a reply over 4,096 bytes, and 6 where the values are longer than the buffer: nothing is learned or written. 8 comes first, since how long the values of such
+-- a reply would be is not worked out; a finish reads at most 4,096
 unfoldable pub readReply : ServerState → List ℕ → Bool → List ℕ → List ℕ → ReadServed
 readReply s pids several reply out =
     let r = reading s pids several reply in
