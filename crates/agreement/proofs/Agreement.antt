@@ -1,13 +1,13 @@
--- Demand 3: two runs have equal records exactly when the two vehicles gave the same.
+-- Demand 3: two runs have the same bytes for a record exactly when the two vehicles gave the same.
 use mathlib.Core.Path.{_≡_, refl, sym, ap, _∙_}
-use mathlib.Core.List.{List, [], _∷_, _++_, map}
+use mathlib.Core.List.{List, [], _∷_, _++_, map, append-assoc}
 use mathlib.Core.Logic.{_↔_}
 use Prim.Native.Nat.{ℕ, zero, suc, _-_, _≤_, _<_}
 use native.Mathlib.Omega.{arith}
 use lib.Dec.{ltb}
 use borrow.Author.Tests.{ltb-true, ltb-false}
-use lib.ListN.{length, take, length-take, length-append}
-use lib.Seq.{sets, take-all}
+use lib.ListN.{length, take, drop, length-take, length-append}
+use lib.Seq.{sets, take-all, take-take, take-append-seam}
 use Rattle.group.specs.Format.{writeRow}
 use Rattle.group.specs.Group.{listOf}
 use Rattle.wire.specs.Answer.{Answer, result, refused}
@@ -16,16 +16,16 @@ use Rattle.wire.specs.Text.{joined}
 use Rattle.wire.proofs.PutLaws.{put-front}
 use Rattle.wire.proofs.Cases.{by-test, from-no}
 use Rattle.wire.proofs.All.{Bytes, all-from}
-use Rattle.value.specs.Values.{Value, partFormat, readRecord}
-use Rattle.value.specs.Same.{SameValues, SameQueries}
-use Rattle.value.proofs.RecordLaws.{RecordFits, record-back, same-record}
+use Rattle.value.specs.Values.{Value, partFormat, readRecord, ofPid}
+use Rattle.value.proofs.RecordLaws.{RecordFits, record-back, record-same}
 use Rattle.reply_values.specs.Values.{answerOrder}
+use Rattle.reply_values.proofs.OrderLaws.{order-pids, order-same}
 use Rattle.bench.specs.Script.{Query, script}
 use Rattle.bench.specs.Run.{Run, Recorded}
-use Rattle.agreement.specs.Vehicle.{given}
+use Rattle.agreement.specs.Vehicle.{given, SameValues, SameQueries}
 use Rattle.agreement.specs.Ends.{Reach, tooLong, reach}
-use Rattle.agreement.specs.Demand.{GoodQueries, givens, commands, SameFirst, Drive, Ran, queries, hireRecord, partsStanding, comesTo, GoodRan, reaches, EveryFits, Holds, Agreement}
-use Rattle.agreement.proofs.Finished.{answer-reordered}
+use Rattle.agreement.specs.Demand.{GoodQueries, givens, commands, firstParts, Drive, Ran, queries, hireRecord, partsStanding, comesTo, GoodRan, reaches, EveryFits}
+use Rattle.agreement.specs.Demand.{Reads, Holds, Agreement}
 use Rattle.agreement.proofs.Parts.{ordered}
 use Rattle.agreement.proofs.Ran.{take-first, reach-few, length-ordered, run-known, run-refused}
 
@@ -45,35 +45,48 @@ joined-row : (vss : List (List Value)) → joined (map (partFormat .write) vss) 
 joined-row [] = refl
 joined-row (vs ∷ vss) = ap (λ s. partFormat .write vs ++ s) (joined-row vss)
 
--- two records, by the first n queries
-same-first : (n : ℕ) (vss wss : List (List Value)) → RecordFits vss → RecordFits wss → SameFirst n (writeRow partFormat vss) (writeRow partFormat wss) ↔ SameQueries (take n vss) (take n wss)
-same-first n vss wss h i = rw (record-back vss h, record-back wss i) ((λ q. q), (λ q. q))
+-- the first n of them are its first bytes
+row-split : (n : ℕ) (vss : List (List Value)) → writeRow partFormat vss ≡ writeRow partFormat (take n vss) ++ writeRow partFormat (drop n vss)
+row-split zero vss = refl
+row-split (suc n) [] = refl
+row-split (suc n) (vs ∷ vss) =
+    let part = partFormat .write vs in
+    ap (λ s. part ++ s) (row-split n vss) ∙ sym (append-assoc part (writeRow partFormat (take n vss)) (writeRow partFormat (drop n vss)))
 
--- the order of an answer does not matter
+first-parts : (n : ℕ) (vss : List (List Value)) → RecordFits vss → firstParts n (writeRow partFormat vss) ≡ writeRow partFormat (take n vss)
+unfolding firstParts
+first-parts n vss h =
+    let row = writeRow partFormat (take n vss) in
+    rw (record-back vss h) (ap (take (length row)) (row-split n vss) ∙ take-append-seam row (writeRow partFormat (drop n vss)))
+
+-- ---- equal bytes, and the same values PID by PID
+
 iff-then : {A B C : Type 0} → A ↔ B → B ↔ C → A ↔ C
 iff-then f g = ((λ a. g .0 (f .0 a)), (λ c. f .1 (g .1 c)))
 
-pids-ordered : (vs ws : List Value) → SameValues (answerOrder vs) (answerOrder ws) ↔ SameValues vs ws
-pids-ordered vs ws =
-    let o = answer-reordered vs .pids in
-    let u = answer-reordered ws .pids in
-    ((λ h p. sym (o p) ∙ h p ∙ u p), (λ h p. o p ∙ h p ∙ sym (u p)))
+-- a record has one reading, so equal bytes are equal values
+same-rows : (vss wss : List (List Value)) → RecordFits vss → RecordFits wss → writeRow partFormat vss ≡ writeRow partFormat wss ↔ vss ≡ wss
+same-rows vss wss h i = (record-same vss wss h i, ap (writeRow partFormat))
 
-same-ordered : (qs rs : List Query) → SameQueries (ordered qs) (ordered rs) ↔ SameQueries (givens qs) (givens rs)
-same-ordered [] [] = ((λ h. h), (λ h. h))
-same-ordered [] (r ∷ rs) = ((λ h. h), (λ h. h))
-same-ordered (q ∷ qs) [] = ((λ h. h), (λ h. h))
+-- values that agree PID by PID have one order of an answer
+same-order : (vs ws : List Value) → answerOrder vs ≡ answerOrder ws ↔ SameValues vs ws
+same-order vs ws = ((λ e p. sym (order-pids vs p) ∙ ap (ofPid p) e ∙ order-pids ws p), order-same vs ws)
+
+same-ordered : (qs rs : List Query) → ordered qs ≡ ordered rs ↔ SameQueries (givens qs) (givens rs)
+same-ordered [] [] = ((λ e. tt), (λ h. refl))
+same-ordered [] (r ∷ rs) = ((λ e. from-no cc), (λ h. absurd h))
+same-ordered (q ∷ qs) [] = ((λ e. from-no cc), (λ h. absurd h))
 same-ordered (q ∷ qs) (r ∷ rs) =
-    let one = pids-ordered (given (q .lines)) (given (r .lines)) in
+    let one = same-order (given (q .lines)) (given (r .lines)) in
     let rest = same-ordered qs rs in
-    ((λ h. (one .0 (h .0), rest .0 (h .1))), (λ h. (one .1 (h .0), rest .1 (h .1))))
+    ((λ e. (one .0 (cc), rest .0 (cc))), (λ h i. one .1 (h .0) i ∷ rest .1 (h .1) i))
 
 take-map : (n : ℕ) (f : Query → List Value) (qs : List Query) → take n (map f qs) ≡ map f (take n qs)
 take-map zero f qs = refl
 take-map (suc n) f [] = refl
 take-map (suc n) f (q ∷ qs) = ap (λ vss. f q ∷ vss) (take-map n f qs)
 
-same-taken : (n : ℕ) (qs rs : List Query) → SameQueries (take n (ordered qs)) (take n (ordered rs)) ↔ SameQueries (take n (givens qs)) (take n (givens rs))
+same-taken : (n : ℕ) (qs rs : List Query) → take n (ordered qs) ≡ take n (ordered rs) ↔ SameQueries (take n (givens qs)) (take n (givens rs))
 same-taken n qs rs =
     let o : (Query → List Value) = λ (q : Query). answerOrder (given (q .lines)) in
     let g : (Query → List Value) = λ (q : Query). given (q .lines) in
@@ -121,6 +134,15 @@ module _ (d : Drive) where
 
   fits-whole : EveryFits d → reaches d .fit ≡ length (queries d)
   fits-whole f = fits-by (script (d .scriptBytes)) refl f
+
+-- as many parts as lists of values, and those of what was given in the order of an answer
+length-parts : (vss : List (List Value)) → length (map (partFormat .write) vss) ≡ length vss
+length-parts [] = refl
+length-parts (vs ∷ vss) = ap suc (length-parts vss)
+
+ordered-givens : (qs : List Query) → ordered qs ≡ map answerOrder (givens qs)
+ordered-givens [] = refl
+ordered-givens (q ∷ qs) = ap (λ vss. answerOrder (given (q .lines)) ∷ vss) (ordered-givens qs)
 
 -- ---- one run
 
@@ -206,6 +228,20 @@ module _ (d : Drive) (r : Ran d) where
         ap (λ s. length (listOf (readRecord s))) record-is ∙
         ap (λ r. length (listOf r)) (record-back standing standing-fits) ∙ (omega (arith, length-take (t .count) (t .values), t .few))
 
+  -- all parts are read, and they are the whole record, on every script: nothing is asked of no query
+  reads : Reads d
+  reads =
+      let t = stands (λ p. 0) 0 tt in
+      let n = t .count in
+      record {
+        each =
+            stand-is 0 t ∙
+            (omega (arith, ap length (t .parts), length-parts (standing 0 t), length-take n (t .values), t .few));
+        all =
+            ap (λ n. firstParts n (hireRecord d)) (stand-is 0 t) ∙ ap (firstParts n) (record-is 0 t) ∙ first-parts n (standing 0 t) (standing-fits 0 t)
+            ∙ ap (writeRow partFormat) (take-take n n (t .values) (omega arith)) ∙ sym (record-is 0 t);
+      }
+
   holds : GoodRan d → Holds d
   holds (L, good) =
       let n = suc (partsStanding d) in
@@ -216,6 +252,10 @@ module _ (d : Drive) (r : Ran d) where
         stand = s ∙ t .fit ran;
         answer = ap (λ (x : Recorded). x .answer) (r .ran) ∙ t .answer ran;
         whole = λ f. s ∙ t .fit ran ∙ fits-whole d f;
+        values =
+            ap (λ s. listOf (readRecord s)) (record-is n t) ∙ ap listOf (record-back (standing n t) (standing-fits n t))
+            ∙ sym (take-take (t .count) n (t .values) (omega arith)) ∙ ap (take (t .count)) (t .first) ∙ take-take (t .count) n (ordered (queries d)) (omega arith)
+            ∙ ap (take (t .count)) (ordered-givens (queries d)) ∙ ap (λ k. take k (map answerOrder (givens (queries d)))) (sym s);
         handed = t .handed ran ∙ ap (λ n. take (suc n) (commands (queries d))) (sym s);
       }
 
@@ -235,22 +275,28 @@ module _ (d : Drive) (r : Ran d) where
 
 pub agreement : (d e : Drive) → Ran d → Ran e → Agreement d e
 agreement d e r s = record {
+  readsOne = reads d r;
+  readsTwo = reads e s;
   one = holds d r;
   two = holds e s;
   equal = λ g h f i.
       let t = stands d r (g .0) (length (queries d)) (g .1) in
       let u = stands e s (h .0) (length (queries e)) (h .1) in
-      let same = same-record (standing d r _ t) (standing e s _ u) (standing-fits d r _ t) (standing-fits e s _ u) in
+      let same = same-rows (standing d r _ t) (standing e s _ u) (standing-fits d r _ t) (standing-fits e s _ u) in
       rw (record-is d r _ t, record-is e s _ u) (iff-then same (rw (all-is d r t f, all-is e s u i) (same-ordered (queries d) (queries e))));
   before = λ n h i g k.
       let t = stands d r (g .0) n (g .1) in
       let u = stands e s (k .0) n (k .1) in
-      let same = same-first n (standing d r n t) (standing e s n u) (standing-fits d r n t) (standing-fits e s n u) in
+      let vss = standing d r n t in
+      let wss = standing e s n u in
+      let fits = standing-fits d r n t in
+      let fits′ = standing-fits e s n u in
+      let same = same-rows (take n vss) (take n wss) (fits-first n vss fits) (fits-first n wss fits′) in
       record {
         equal =
-            rw (record-is d r n t, record-is e s n u)
+            rw (record-is d r n t, record-is e s n u, first-parts n vss fits, first-parts n wss fits′)
             (iff-then same (rw (first-is d r n t h, first-is e s n u i) (same-taken n (queries d) (queries e))));
-        one = t .before (omega (arith, stand-is d r n t));
-        two = u .before (omega (arith, stand-is e s n u));
+        handedOne = t .before (omega (arith, stand-is d r n t));
+        handedTwo = u .before (omega (arith, stand-is e s n u));
       };
 }

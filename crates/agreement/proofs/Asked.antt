@@ -43,7 +43,7 @@ use Rattle.agreement.specs.Vehicle.{given}
 use Rattle.agreement.specs.Demand.{commandOf}
 use Rattle.agreement.proofs.Agree.{Agree}
 use Rattle.agreement.proofs.Heard.{quiet, unspaced-some, unspaced-short, heard, heard-again}
-use Rattle.agreement.proofs.Finished.{answer-reordered, finish-given}
+use Rattle.agreement.proofs.Finished.{finish-given}
 use Rattle.agreement.proofs.Started.{settled, Between}
 use Rattle.agreement.proofs.Replied as replied
 
@@ -119,7 +119,7 @@ module _ (L : ℕ → ℕ) (pids : List ℕ) (count : ℕ) (l : Line) (ls : List
         let d = finishSays valuesRoom c store in
         let o = g .over in
         record {
-          answer = ap (λ (a : Answer Progress). partOf a (d .text)) (g .answer) ∙ (λ i. result (groupBytes (sym (answer-reordered vs .count) i) ++ g .text i));
+          answer = ap (λ (a : Answer Progress). partOf a (d .text)) (g .answer) ∙ (λ i. result (groupBytes (length (answerOrder vs)) ++ g .text i));
           handed = refl;
           between = record {
             turn = o .under;

@@ -12,7 +12,6 @@ use Rattle.wire.specs.Text.{high}
 use Rattle.wire.proofs.All.{Bytes}
 use Rattle.line_list.specs.Lines.{Line, Fits}
 use Rattle.value.specs.Values.{Value, valuesBytes}
-use Rattle.value.specs.Same.{SameValues}
 use Rattle.value.proofs.RecordLaws.{ValuesFit}
 use Rattle.reply.specs.Reply.{replyText}
 use Rattle.reply.proofs.ByteLaws.{reply-low}
@@ -20,6 +19,7 @@ use Rattle.reply_lines.specs.Decode.{replyLines}
 use Rattle.reply_values.specs.Values.{valuesOf, answerOrder}
 use Rattle.reply_values.specs.Learn.{lengthsAfter}
 use Rattle.reply_values.specs.Read.{Reading}
+use Rattle.reply_values.proofs.OrderLaws.{order-size, order-fit}
 use Rattle.reply_values.proofs.SizeLaws.{reply-size}
 use Rattle.reply_values.proofs.WalkLaws.{values-fit}
 use Rattle.reply_values.proofs.ReadLaws.{reply-known}
@@ -36,18 +36,6 @@ use Rattle.agreement.specs.Lines.{GoodLines}
 use Rattle.agreement.proofs.ReplyBack.{known, reply-back}
 use Rattle.agreement.proofs.Given.{given-values}
 use Rattle.agreement.proofs.Agree.{Agree, values-agree, learn-agree}
-
--- Values in another order: as many, with as many bytes, the same PID by PID, and each fit for a record.
-pub record Reordered (vs ws : List Value) : Type 0 where
-  pub count : length ws ≡ length vs
-  pub size : length (valuesBytes ws) ≡ length (valuesBytes vs)
-  pub pids : SameValues ws vs
-  pub fit : ValuesFit vs → ValuesFit ws
-
--- the order of an answer is such a one
-pub answer-reordered : (vs : List Value) → Reordered vs (answerOrder vs)
-unfolding answerOrder
-answer-reordered vs = record { count = refl; size = refl; pids = λ p. refl; fit = λ h. h }
 
 -- ---- any complete reply
 
@@ -90,7 +78,7 @@ module _ (c : Client) (store : List ℕ) (turn : isComplete (c .under) ≡ true)
       let vs = valuesOf (lengthsThen c ls) ls in
       let fits = reply-size (lengthsThen c ls) (c .server .framing) reply short in
       finish-low valuesRoom c store turn size low ∙
-      rw (le-ltb valuesRoom (length (valuesBytes (answerOrder vs))) (omega (arith, answer-reordered vs .size)))
+      rw (le-ltb valuesRoom (length (valuesBytes (answerOrder vs))) (omega (arith, order-size vs)))
 
   -- so the finish gets no number, and gives values that fit a record
   pub finish-any : (vs : List Value) × Finishes c vs (finishSays valuesRoom c store)
@@ -99,13 +87,13 @@ module _ (c : Client) (store : List ℕ) (turn : isComplete (c .under) ≡ true)
       let ls = replyLines (c .server .framing) reply in
       let fit = values-fit (lengthsThen c ls) ls (reply-known (c .server .framing) reply) in
       rw finish-fits
-      (readFor c reply .values, record { answer = refl; text = refl; fit = answer-reordered (valuesOf (lengthsThen c ls) ls) .fit fit; over = over-with c reply })
+      (readFor c reply .values, record { answer = refl; text = refl; fit = order-fit (valuesOf (lengthsThen c ls) ls) fit; over = over-with c reply })
 
 -- ---- the reply to a run's lines
 
--- A finish f of the query of a session c with the values vs, in a run with the lengths L.
+-- A finish f of the query of a session c with the values vs in the order of an answer, in a run with the lengths L.
 pub record Gave (L : ℕ → ℕ) (c : Client) (vs : List Value) (f : ClientSaid) : Type 0 where
-  pub answer : f .answer ≡ result (values (length vs))
+  pub answer : f .answer ≡ result (values (length (answerOrder vs)))
   pub text : f .text ≡ valuesBytes (answerOrder vs)
   pub over : Over c (f .next)
   pub agree : Agree L (f .next .server .«pid_lengths»)
@@ -141,7 +129,7 @@ finish-given L c store l ls turn size framed r fit bytes good pids a =
     let same : gives .server .«pid_lengths» ≡ lengths = ap (lengthsThen c) back in
     rw says
     (record {
-      answer = ap (λ n. result (values n)) (ap length gave ∙ answer-reordered (given (l ∷ ls)) .count);
+      answer = ap (λ vs. result (values (length vs))) gave;
       text = ap valuesBytes gave;
       over = over-with c (replyIn c store);
       agree = rw same a′;

@@ -14,10 +14,10 @@ use Rattle.hex.specs.Digits.{hexDigit}
 use Rattle.hex.specs.Read.{digit, leading}
 use Rattle.pid.specs.J1979.{j1979}
 use Rattle.pid.specs.Lengths.{mode01Lengths}
-use Rattle.group.specs.Group.{groupBytes, got}
+use Rattle.group.specs.Group.{groupBytes}
+use Rattle.group.specs.Format.{writeRow}
 use Rattle.line_list.specs.Lines.{Line, line, lineList}
-use Rattle.value.specs.Values.{Value, valueFormat, readRecord}
-use Rattle.value.specs.Same.{SameQueries, SameRecord}
+use Rattle.value.specs.Values.{Value, valueFormat, partFormat, readRecord}
 use Rattle.at_command.specs.Dialect.{atKind}
 use Rattle.reply.specs.Reply.{lineText, replyText}
 use Rattle.server_session.specs.Bytes.{canonical, byteTaken, byteSays, bytesSay}
@@ -35,8 +35,10 @@ use Rattle.bench.specs.Exchange.{exchanged}
 use Rattle.bench.specs.Deliver.{pieces}
 use Rattle.bench.specs.declared.RunAnswer.the-variants.{Complete, Refused}
 use Rattle.bench.specs.Run.{initialised, part, runSays, recorded, runLent}
+use Rattle.agreement.specs.Vehicle.{SameQueries}
 use Rattle.agreement.specs.Lines.{end, next, alone, table}
-use Rattle.agreement.specs.Demand.{givens, Drive, drive, comesTo, Ran, queries, hireRecord, GoodFirst, GoodAll, EveryFits, Holds, HoldsFirst}
+use Rattle.agreement.specs.Demand.{givens, firstParts, Drive, drive, comesTo, Ran, queries, hireRecord, GoodFirst, GoodAll, EveryFits, Holds, HoldsFirst}
+use Rattle.agreement.proofs.Parts.{ordered}
 use Rattle.agreement.proofs.Witness.{
   scriptOf,
   low-at,
@@ -65,7 +67,7 @@ use Rattle.agreement.proofs.Witness.{
 
 -- what demand 3 claims of two runs
 abbrev Equal : Drive → Drive → Type 0
-Equal d e = SameRecord (hireRecord d) (hireRecord e) ↔ SameQueries (givens (queries d)) (givens (queries e))
+Equal d e = hireRecord d ≡ hireRecord e ↔ SameQueries (givens (queries d)) (givens (queries e))
 
 -- how many data bytes the first value has
 abbrev dataOf : List Value → ℕ
@@ -104,7 +106,7 @@ abbrev lastOfThird : List (List ℕ) → ℕ
 lastOfThird cs = getD (getD cs 2 []) 3 0
 
 without-line : EveryFits unanswered × (Holds unanswered → ⊥)
-unfolding readRecord SameRecord lineText replyText hexDigit valueFormat groupBytes j1979 queryText
+unfolding readRecord lineText replyText hexDigit valueFormat groupBytes j1979 queryText
 without-line = (
   fits unanswered-run refl,
   λ h.
@@ -123,7 +125,7 @@ apart =
     own ∷ vehicle (line 0 (0x41 ∷ 0x0D ∷ 0x20 ∷ []) ∷ line 0 (0x41 ∷ 0xE0 ∷ 1 ∷ 2 ∷ 3 ∷ []) ∷ line 0 (0x41 ∷ 0x0C ∷ 0x1A ∷ 0xF8 ∷ []) ∷ []) ∷ []
 
 abbrev threeValues : List Query → Drive
-threeValues qs = drive true [] (scriptOf qs) (replicate 35 0) ((1 ∷ ownValue) ++ (3 ∷ speedValue) ++ ownValue ++ engineValue 0xF8) (record { answer = Complete; written = 35 })
+threeValues qs = drive true [] (scriptOf qs) (replicate 35 0) ((1 ∷ ownValue) ++ (3 ∷ engineValue 0xF8) ++ speedValue ++ ownValue) (record { answer = Complete; written = 35 })
 
 crowded-run : Computed (threeValues crowded) crowded (ascii "01E0" ∷ ascii "010D" ∷ [])
 unfolding has high isSpace raised hexDigit digit leading j1979 mode01Lengths groupBytes lineList valueFormat atKind lineText replyText canonical
@@ -154,13 +156,13 @@ good-apart = good-all apart-run (λ p. 3) (
 )
 
 not-alone : GoodAll (threeValues apart) × EveryFits (threeValues crowded) × EveryFits (threeValues apart) × (Equal (threeValues crowded) (threeValues apart) → ⊥)
-unfolding readRecord SameRecord lineText replyText hexDigit valueFormat groupBytes j1979
+unfolding lineText replyText hexDigit valueFormat groupBytes j1979
 not-alone = (
   good-apart,
   fits crowded-run refl,
   fits apart-run refl,
   λ c.
-      let gave = rw (crowded-run .reads, apart-run .reads) at (c .0 ((λ p. refl), ((λ p. refl), tt))) in
+      let gave = rw (crowded-run .reads, apart-run .reads) at (c .0 refl) in
       let e : _≡_ {A = ℕ} 6 3 = ap dataOf (gave .1 .0 0xE0) in
       absurd (omega arith),
 )
@@ -174,7 +176,7 @@ abbrev level : List Query
 level = own ∷ makers (line 0 (0x41 ∷ 0xE0 ∷ 1 ∷ 2 ∷ 3 ∷ []) ∷ line 0 (0x41 ∷ 0x0D ∷ 0x20 ∷ []) ∷ []) ∷ []
 
 abbrev twoValues : List Query → Drive
-twoValues qs = drive true [] (scriptOf qs) (replicate 27 0) ((1 ∷ ownValue) ++ (2 ∷ ownValue) ++ speedValue) (record { answer = Complete; written = 27 })
+twoValues qs = drive true [] (scriptOf qs) (replicate 27 0) ((1 ∷ ownValue) ++ (2 ∷ speedValue) ++ ownValue) (record { answer = Complete; written = 27 })
 
 longer-run : Computed (twoValues longer) longer (ascii "01E0" ∷ ascii "01E0" ∷ [])
 unfolding has high isSpace raised hexDigit digit leading j1979 mode01Lengths groupBytes lineList valueFormat atKind lineText replyText canonical
@@ -196,13 +198,13 @@ good-level = good-all level-run (λ p. 3) (
 )
 
 two-lengths : GoodAll (twoValues level) × EveryFits (twoValues longer) × EveryFits (twoValues level) × (Equal (twoValues longer) (twoValues level) → ⊥)
-unfolding readRecord SameRecord lineText replyText hexDigit valueFormat groupBytes j1979
+unfolding lineText replyText hexDigit valueFormat groupBytes j1979
 two-lengths = (
   good-level,
   fits longer-run refl,
   fits level-run refl,
   λ c.
-      let gave = rw (longer-run .reads, level-run .reads) at (c .0 ((λ p. refl), ((λ p. refl), tt))) in
+      let gave = rw (longer-run .reads, level-run .reads) at (c .0 refl) in
       let e : _≡_ {A = ℕ} 5 3 = ap dataOf (gave .1 .0 0xE0) in
       absurd (omega arith),
 )
@@ -218,7 +220,7 @@ unfolding has high isSpace raised hexDigit digit leading j1979 mode01Lengths gro
 overrun-run = record { ran = record { bytes = low-at (scriptOf longer) refl; ran = refl }; reads = refl; handed = refl }
 
 last-of-another-length : GoodFirst 1 overrun × (Holds overrun → ⊥)
-unfolding readRecord SameRecord lineText replyText hexDigit valueFormat groupBytes j1979
+unfolding readRecord lineText replyText hexDigit valueFormat groupBytes j1979
 last-of-another-length = (
   good-first overrun-run (λ p. 3) 1 (good-own, tt),
   λ h.
@@ -254,32 +256,36 @@ twice-run = record { ran = record { bytes = low-at (scriptOf twice) refl; ran = 
 
 -- a run that 6 or 8 ended has the record of a shorter list
 part-overruns : GoodAll ended6 × GoodAll twoParts × EveryFits twoParts × (Equal ended6 twoParts → ⊥)
-unfolding readRecord SameRecord lineText replyText hexDigit valueFormat groupBytes j1979
+unfolding lineText replyText hexDigit valueFormat groupBytes j1979
 part-overruns = (
   good-all ended6-run (λ p. 3) good-unknown,
   good-all twice-run (λ p. 3) (good-engine (λ p. 3) 0 0xF8, (good-engine (λ p. 3) 0 0xF8, tt)),
   fits twice-run refl,
-  λ c. (rw (ended6-run .reads, twice-run .reads) at (c .0 ((λ p. refl), ((λ p. refl), tt)))) .1 .1,
+  λ c. (rw (ended6-run .reads, twice-run .reads) at (c .0 refl)) .1 .1,
 )
 
 reply-too-long : GoodAll onePart × GoodAll ended8 × EveryFits onePart × (Equal onePart ended8 → ⊥)
-unfolding readRecord SameRecord lineText replyText hexDigit valueFormat groupBytes j1979
+unfolding lineText replyText hexDigit valueFormat groupBytes j1979
 reply-too-long = (
   good-all once-run (λ p. 3) (good-engine (λ p. 3) 0 0xF8, tt),
   good-all ended8-run (λ p. 253) good-8,
   fits once-run refl,
-  λ c. (rw (once-run .reads, ended8-run .reads) at (c .0 ((λ p. refl), tt))) .1,
+  λ c. (rw (once-run .reads, ended8-run .reads) at (c .0 refl)) .1,
 )
 
 -- ---- "of the queries before that point, whose parts stand"
 
 more-than-stand : HoldsFirst 3 first ended6 → ⊥
-unfolding readRecord SameRecord lineText replyText hexDigit valueFormat groupBytes j1979
-more-than-stand h = h .equal .1 (rw (first-run .reads) ((λ p. refl), ((λ p. refl), ((λ p. refl), tt)))) .1 .1
+unfolding firstParts readRecord lineText replyText hexDigit valueFormat groupBytes j1979
+more-than-stand h =
+    let e : _≡_ {A = ℕ} 34 18 = ap length (h .equal .1 (rw (first-run .reads) ((λ p. refl), ((λ p. refl), ((λ p. refl), tt))))) in
+    absurd (omega arith)
 
 more-than-stand-before : HoldsFirst 3 ended6 first → ⊥
-unfolding readRecord SameRecord lineText replyText hexDigit valueFormat groupBytes j1979
-more-than-stand-before h = h .equal .1 (rw (first-run .reads) ((λ p. refl), ((λ p. refl), ((λ p. refl), tt)))) .1 .1
+unfolding firstParts readRecord lineText replyText hexDigit valueFormat groupBytes j1979
+more-than-stand-before h =
+    let e : _≡_ {A = ℕ} 18 34 = ap length (h .equal .1 (rw (first-run .reads) ((λ p. refl), ((λ p. refl), ((λ p. refl), tt))))) in
+    absurd (omega arith)
 
 -- ---- what is known of a call
 
@@ -288,11 +294,13 @@ abbrev unwritten : Drive
 unwritten = drive true [] (scriptOf unknown) (replicate 45 0) (replicate 45 0) (record { answer = Complete; written = 0 })
 
 contract-broken : GoodAll unwritten × EveryFits unwritten × (Equal first unwritten → ⊥)
-unfolding readRecord SameRecord lineText replyText hexDigit valueFormat groupBytes j1979
+unfolding lineText replyText hexDigit valueFormat groupBytes j1979
 contract-broken = (
   ((λ p. 3), rw (first-run .reads) good-unknown),
   first-fits,
-  λ c. c .1 (rw (first-run .reads) ((λ p. refl), ((λ p. refl), ((λ p. refl), ((λ p. refl), tt))))),
+  λ c.
+      let e : _≡_ {A = ℕ} 44 0 = ap length (c .1 (rw (first-run .reads) ((λ p. refl), ((λ p. refl), ((λ p. refl), ((λ p. refl), tt)))))) in
+      absurd (omega arith),
 )
 
 -- A number over 255 is no byte: the reply has its last two digits alone.
@@ -309,14 +317,14 @@ unfolding has high isSpace raised hexDigit digit leading j1979 mode01Lengths gro
 speed-run = record { ran = record { bytes = low-at (scriptOf (speed 0x20)) refl; ran = refl }; reads = refl; handed = refl }
 
 no-byte : (recorded (speedRun 0x120 .run) (speedRun 0x120 .buffer) ≡ runLent (comesTo (speedRun 0x120)) (replicate 8 0)) × Ran (speedRun 0x20) × (Equal (speedRun 0x120) (speedRun 0x20) → ⊥)
-unfolding readRecord SameRecord has high isSpace raised hexDigit digit leading j1979 mode01Lengths groupBytes lineList valueFormat atKind lineText replyText
+unfolding has high isSpace raised hexDigit digit leading j1979 mode01Lengths groupBytes lineList valueFormat atKind lineText replyText
     canonical unless byteTaken byteSays bytesSay answerSays replySays queryText textLines textLine replyLines walked answerOrder learnLength initSays
     querySays replyTakes pieceSays finishSays script queryFormat exchanged pieces initialised part runSays
 no-byte = (
   refl,
   speed-run .ran,
   λ c.
-      let e : _≡_ {A = ℕ} 0x120 0x20 = ap byteOf (c .0 ((λ p. refl), tt) .0 0x0D) in
+      let e : _≡_ {A = ℕ} 0x120 0x20 = ap byteOf (c .0 refl .0 0x0D) in
       absurd (omega arith),
 )
 
@@ -328,7 +336,7 @@ abbrev loose : List Query
 loose = vehicle (line 0 (0x42 ∷ 0x0D ∷ 0x20 ∷ []) ∷ line 0 (0x41 ∷ []) ∷ line 0 (0x41 ∷ 0x0D ∷ 0x20 ∷ 0x0C ∷ 0x1A ∷ []) ∷ []) ∷ []
 
 abbrev looseRun : Drive
-looseRun = drive true [] (scriptOf loose) (replicate 15 0) ((2 ∷ speedValue) ++ (0x0C ∷ 0xE9 ∷ 0x0F ∷ 3 ∷ 0x41 ∷ 0x0C ∷ 0x1A ∷ [])) (record { answer = Complete; written = 15 })
+looseRun = drive true [] (scriptOf loose) (replicate 15 0) ((2 ∷ 0x0C ∷ 0xE9 ∷ 0x0F ∷ 3 ∷ 0x41 ∷ 0x0C ∷ 0x1A ∷ []) ++ speedValue) (record { answer = Complete; written = 15 })
 
 loose-run : Computed looseRun loose (ascii "010D" ∷ [])
 unfolding has high isSpace raised hexDigit digit leading j1979 mode01Lengths groupBytes lineList valueFormat atKind lineText replyText canonical
@@ -336,6 +344,6 @@ unfolding has high isSpace raised hexDigit digit leading j1979 mode01Lengths gro
     replyTakes pieceSays finishSays script queryFormat exchanged pieces initialised part runSays
 loose-run = record { ran = record { bytes = low-at (scriptOf loose) refl; ran = refl }; reads = refl; handed = refl }
 
-loose-given : readRecord (hireRecord looseRun) ≡ got (givens loose) []
-unfolding readRecord valueFormat groupBytes j1979
+loose-given : hireRecord looseRun ≡ writeRow partFormat (ordered loose)
+unfolding valueFormat groupBytes j1979 answerOrder
 loose-given = refl

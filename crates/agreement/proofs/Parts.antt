@@ -13,9 +13,9 @@ use Rattle.group.specs.Group.{groupBytes}
 use Rattle.value.specs.Values.{Value, valuesBytes, partFormat}
 use Rattle.value.proofs.RecordLaws.{ValuesFit}
 use Rattle.reply_values.specs.Values.{answerOrder}
+use Rattle.reply_values.proofs.OrderLaws.{order-count, order-size}
 use Rattle.bench.specs.Script.{Query}
 use Rattle.agreement.specs.Vehicle.{givenEcu, owed, takes, givenLine, given}
-use Rattle.agreement.proofs.Finished.{answer-reordered}
 
 -- what a vehicle gave, in the order of an answer
 abbrev pub ordered : List Query → List (List Value)
@@ -28,13 +28,12 @@ givenPart q = partFormat .write (answerOrder (given (q .lines)))
 pub part-size : (q : Query) → length (partFormat .write (given (q .lines))) ≡ length (givenPart q)
 part-size q =
     let vs = given (q .lines) in
-    let o = answer-reordered vs in
     omega (
       arith,
       length-append (groupBytes (length vs)) (valuesBytes vs),
       length-append (groupBytes (length (answerOrder vs))) (valuesBytes (answerOrder vs)),
-      ap (λ n. length (groupBytes n)) (o .count),
-      o .size,
+      ap (λ n. length (groupBytes n)) (order-count vs),
+      order-size vs,
     )
 
 -- ---- what a vehicle gave can be read back from a record

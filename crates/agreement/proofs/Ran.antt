@@ -15,13 +15,13 @@ use Rattle.value.specs.Values.{Value, partFormat}
 use Rattle.value.proofs.RecordLaws.{ValuesFit, RecordFits}
 use Rattle.reply.specs.Reply.{replyText}
 use Rattle.reply_values.specs.Values.{answerOrder}
+use Rattle.reply_values.proofs.OrderLaws.{order-fit}
 use Rattle.bench.specs.Script.{Query, script, InLimits}
 use Rattle.bench.proofs.ScriptLaws.{AllAreBytes, script-limits, script-bytes}
 use Rattle.bench.specs.Run.{Bench, Run, ended, initialised, part, asked, runSays}
 use Rattle.agreement.specs.Vehicle.{given}
 use Rattle.agreement.specs.Ends.{Reach, tooLong, reach, Limited}
 use Rattle.agreement.specs.Demand.{GoodQueries, givens, commandOf, commands}
-use Rattle.agreement.proofs.Finished.{answer-reordered}
 use Rattle.agreement.proofs.Started.{Between, started}
 use Rattle.agreement.proofs.Asked.{Ready, Outcome, outcome}
 use Rattle.agreement.proofs.Parts.{ordered, givenPart, part-size, given-fits}
@@ -53,7 +53,7 @@ script-ready s qs b e = ready qs (script-limits s qs e) (script-bytes s qs b e)
 -- what their vehicle gave can be read back
 ready-fits : (qs : List Query) → AllReady qs → RecordFits (ordered qs)
 ready-fits [] ok = tt
-ready-fits (q ∷ qs) ok = (answer-reordered (given (q .lines)) .fit (given-fits (q .lines) (ok .0 .fit)), ready-fits qs (ok .1))
+ready-fits (q ∷ qs) ok = (order-fit (given (q .lines)) (given-fits (q .lines) (ok .0 .fit)), ready-fits qs (ok .1))
 
 -- how far a run goes is within the list
 pub reach-few : (room : ℕ) (qs : List Query) (vss : List (List Value)) → reach room qs vss .fit ≤ length vss

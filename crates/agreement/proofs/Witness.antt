@@ -21,7 +21,6 @@ use Rattle.group.specs.Group.{groupBytes}
 use Rattle.group.specs.Format.{writeRow}
 use Rattle.line_list.specs.Lines.{Line, line, lineList}
 use Rattle.value.specs.Values.{Value, value, valueFormat, readRecord}
-use Rattle.value.specs.Same.{SameValues, SameRecord}
 use Rattle.at_command.specs.Dialect.{atKind}
 use Rattle.reply.specs.Reply.{lineText, replyText}
 use Rattle.server_session.specs.Bytes.{canonical, byteTaken, byteSays, bytesSay}
@@ -39,8 +38,9 @@ use Rattle.bench.specs.Exchange.{exchanged}
 use Rattle.bench.specs.Deliver.{pieces}
 use Rattle.bench.specs.declared.RunAnswer.the-variants.{Complete, Refused}
 use Rattle.bench.specs.Run.{initialised, part, Run, runSays, runLent}
+use Rattle.agreement.specs.Vehicle.{SameValues}
 use Rattle.agreement.specs.Lines.{end, next, alone, table, GoodLine}
-use Rattle.agreement.specs.Demand.{GoodQuery, GoodQueries, givens, SameFirst, Drive, drive, comesTo, Ran, hireRecord, GoodFirst, GoodAll, EveryFits}
+use Rattle.agreement.specs.Demand.{GoodQuery, GoodQueries, givens, firstParts, Drive, drive, comesTo, Ran, hireRecord, GoodFirst, GoodAll, EveryFits}
 use Rattle.agreement.specs.Ends.{reach}
 use Rattle.agreement.proofs.Ran.{run-given}
 use Rattle.agreement.proofs.Agreement.{agreement}
@@ -103,7 +103,7 @@ known low = engine 0x7E9 low ∷ engine 0x7E9 0xF8 ∷ speeds 0x7E9 (0x0D ∷ 0x
 abbrev other : ℕ → Drive
 other low =
     drive false (1 ∷ 2 ∷ 0 ∷ 200 ∷ 3 ∷ []) (scriptOf (known low)) (replicate 44 0)
-    ((1 ∷ engineValue low) ++ (1 ∷ engineValue 0xF8) ++ (2 ∷ speedValue) ++ engineValue 0xF8 ++ (1 ∷ ownValue)) (record { answer = Complete; written = 44 })
+    ((1 ∷ engineValue low) ++ (1 ∷ engineValue 0xF8) ++ (2 ∷ engineValue 0xF8) ++ speedValue ++ (1 ∷ ownValue)) (record { answer = Complete; written = 44 })
 
 second-run : Computed (other 0xF8) (known 0xF8) (ascii "010C1" ∷ ascii "010C1" ∷ ascii "010C0D" ∷ ascii "01E0" ∷ [])
 unfolding has high isSpace raised hexDigit digit leading j1979 mode01Lengths groupBytes lineList valueFormat atKind lineText replyText canonical
@@ -220,22 +220,23 @@ module _ {d : Drive} {qs : List Query} {texts : List (List ℕ)} (c : Computed d
   pub fits : reach (length (d .lentBuffer)) qs (givens qs) .answer ≡ result tt → EveryFits d
   fits e = rw (c .reads) e
 
+-- what vehicles gave
+abbrev engineGiven : ℕ → ℕ → ℕ → Value
+engineGiven ecu a b = value 0x0C ecu (a ∷ b ∷ [])
+
+abbrev speedGiven : ℕ → ℕ → Value
+speedGiven ecu a = value 0x0D ecu (a ∷ [])
+
 -- two values in either order
-abbrev engineGiven : Value
-engineGiven = value 0x0C 0x7E9 (0x1A ∷ 0xF8 ∷ [])
-
-abbrev speedGiven : Value
-speedGiven = value 0x0D 0x7E9 (0x20 ∷ [])
-
-swapped : SameValues (engineGiven ∷ speedGiven ∷ []) (speedGiven ∷ engineGiven ∷ [])
+swapped : SameValues (engineGiven 0x7E9 0x1A 0xF8 ∷ speedGiven 0x7E9 0x20 ∷ []) (speedGiven 0x7E9 0x20 ∷ engineGiven 0x7E9 0x1A 0xF8 ∷ [])
 swapped p = by-test (eqb 0x0C p) (λ t. rw (← eqb-true 0x0C p t) refl) (λ t. rw t refl)
 
 pub first-fits : EveryFits first
 unfolding lineText replyText hexDigit valueFormat groupBytes j1979
 first-fits = fits first-run refl
 
--- the records of the first two are equal, since the vehicles gave the same
-same-records : SameRecord (hireRecord first) (hireRecord (other 0xF8))
+-- the records of the first two have the same bytes, since the vehicles gave the same
+same-records : hireRecord first ≡ hireRecord (other 0xF8)
 unfolding lineText replyText hexDigit valueFormat groupBytes j1979
 same-records =
     let same = agreement first (other 0xF8) (first-run .ran) (second-run .ran) .equal (good-all first-run (λ p. 3) good-unknown)
@@ -248,7 +249,7 @@ lowOf [] = 0
 lowOf (v ∷ vs) = getD (v .bytes) 1 0
 
 -- and that of the third differs, since its vehicle gave another value
-other-record : SameRecord (hireRecord first) (hireRecord (other 0xF9)) → ⊥
+other-record : hireRecord first ≡ hireRecord (other 0xF9) → ⊥
 unfolding lineText replyText hexDigit valueFormat groupBytes j1979
 other-record h =
     let same = agreement first (other 0xF9) (first-run .ran) (third-run .ran) .equal (good-all first-run (λ p. 3) good-unknown)
@@ -256,8 +257,123 @@ other-record h =
     let e : _≡_ {A = ℕ} 0xF8 0xF9 = ap lowOf ((rw (first-run .reads, third-run .reads) at (same .0 h)) .0 0x0C) in
     absurd (omega arith)
 
+-- ---- one query of two PIDs, answered by two ECUs
+
+abbrev both : List Line → List Query
+both ls = query (0x0D ∷ 0x0C ∷ []) 0 ls ∷ []
+
+abbrev bothRun : List Line → List ℕ → Drive
+bothRun ls values = drive true [] (scriptOf (both ls)) (replicate 31 0) (4 ∷ values) (record { answer = Complete; written = 31 })
+
+-- both PIDs on a line: of 7E9, and of 7E8
+abbrev of7E9 : Line
+of7E9 = line 0x7EA (0x41 ∷ 0x0D ∷ 0x20 ∷ 0x0C ∷ 0x1A ∷ 0xF8 ∷ [])
+
+abbrev of7E8 : Line
+of7E8 = line 0x7E9 (0x41 ∷ 0x0C ∷ 0 ∷ 1 ∷ 0x0D ∷ 0x21 ∷ [])
+
+-- a PID on a line: as part of the reply, and as a value of the record
+abbrev engineLine : ℕ → ℕ → ℕ → Line
+engineLine ecu a b = line ecu (0x41 ∷ 0x0C ∷ a ∷ b ∷ [])
+
+abbrev speedLine : ℕ → ℕ → Line
+speedLine ecu a = line ecu (0x41 ∷ 0x0D ∷ a ∷ [])
+
+abbrev engineOf : ℕ → ℕ → ℕ → List ℕ
+engineOf low a b = 0x0C ∷ low ∷ 0x0F ∷ 0x04 ∷ 0x41 ∷ 0x0C ∷ a ∷ b ∷ []
+
+abbrev speedOf : ℕ → ℕ → List ℕ
+speedOf low a = 0x0D ∷ low ∷ 0x0F ∷ 0x03 ∷ 0x41 ∷ 0x0D ∷ a ∷ []
+
+-- 7E9 answers first, line by line or PID by PID; and 7E8 does
+abbrev byLine : Drive
+byLine = bothRun (of7E9 ∷ of7E8 ∷ []) (engineOf 0xEA 0x1A 0xF8 ++ engineOf 0xE9 0 1 ++ speedOf 0xEA 0x20 ++ speedOf 0xE9 0x21)
+
+abbrev byPid : Drive
+byPid =
+    bothRun (engineLine 0x7EA 0x1A 0xF8 ∷ engineLine 0x7E9 0 1 ∷ speedLine 0x7EA 0x20 ∷ speedLine 0x7E9 0x21 ∷ [])
+    (engineOf 0xEA 0x1A 0xF8 ++ engineOf 0xE9 0 1 ++ speedOf 0xEA 0x20 ++ speedOf 0xE9 0x21)
+
+abbrev turned : Drive
+turned = bothRun (of7E8 ∷ of7E9 ∷ []) (engineOf 0xE9 0 1 ++ engineOf 0xEA 0x1A 0xF8 ++ speedOf 0xE9 0x21 ++ speedOf 0xEA 0x20)
+
+by-line-run : Computed byLine (both (of7E9 ∷ of7E8 ∷ [])) (ascii "010D0C" ∷ [])
+unfolding has high isSpace raised hexDigit digit leading j1979 mode01Lengths groupBytes lineList valueFormat atKind lineText replyText canonical
+    unless byteTaken byteSays bytesSay answerSays replySays queryText textLines textLine replyLines walked answerOrder learnLength initSays querySays
+    replyTakes pieceSays finishSays script queryFormat exchanged pieces initialised part runSays
+by-line-run = record { ran = record { bytes = low-at (byLine .scriptBytes) refl; ran = refl }; reads = refl; handed = refl }
+
+by-pid-run : Computed byPid (both (engineLine 0x7EA 0x1A 0xF8 ∷ engineLine 0x7E9 0 1 ∷ speedLine 0x7EA 0x20 ∷ speedLine 0x7E9 0x21 ∷ [])) (ascii "010D0C" ∷ [])
+unfolding has high isSpace raised hexDigit digit leading j1979 mode01Lengths groupBytes lineList valueFormat atKind lineText replyText canonical
+    unless byteTaken byteSays bytesSay answerSays replySays queryText textLines textLine replyLines walked answerOrder learnLength initSays querySays
+    replyTakes pieceSays finishSays script queryFormat exchanged pieces initialised part runSays
+by-pid-run = record { ran = record { bytes = low-at (byPid .scriptBytes) refl; ran = refl }; reads = refl; handed = refl }
+
+turned-run : Computed turned (both (of7E8 ∷ of7E9 ∷ [])) (ascii "010D0C" ∷ [])
+unfolding has high isSpace raised hexDigit digit leading j1979 mode01Lengths groupBytes lineList valueFormat atKind lineText replyText canonical
+    unless byteTaken byteSays bytesSay answerSays replySays queryText textLines textLine replyLines walked answerOrder learnLength initSays querySays
+    replyTakes pieceSays finishSays script queryFormat exchanged pieces initialised part runSays
+turned-run = record { ran = record { bytes = low-at (turned .scriptBytes) refl; ran = refl }; reads = refl; handed = refl }
+
+module _ (L : ℕ → ℕ) where
+  good-7E9 : GoodLine L of7E9
+  unfolding j1979
+  good-7E9 = (_, refl, table _ _ (next 0x0D (0x20 ∷ []) _ _ refl refl (next 0x0C (0x1A ∷ 0xF8 ∷ []) [] _ refl refl end)))
+
+  good-7E8 : GoodLine L of7E8
+  unfolding j1979
+  good-7E8 = (_, refl, table _ _ (next 0x0C (0 ∷ 1 ∷ []) _ _ refl refl (next 0x0D (0x21 ∷ []) [] _ refl refl end)))
+
+  good-engine-line : (ecu a b : ℕ) → GoodLine L (engineLine ecu a b)
+  unfolding j1979
+  good-engine-line ecu a b = (_, refl, table _ _ (next 0x0C (a ∷ b ∷ []) [] _ refl refl end))
+
+  good-speed-line : (ecu a : ℕ) → GoodLine L (speedLine ecu a)
+  unfolding j1979
+  good-speed-line ecu a = (_, refl, table _ _ (next 0x0D (a ∷ []) [] _ refl refl end))
+
+good-by-line : GoodAll byLine
+good-by-line = let L : (ℕ → ℕ) = λ p. 0 in good-all by-line-run L ((omega arith, (good-7E9 L, (good-7E8 L, tt))), tt)
+
+good-by-pid : GoodAll byPid
+good-by-pid =
+    let L : (ℕ → ℕ) = λ p. 0 in
+    good-all by-pid-run L
+    ((omega arith, (good-engine-line L 0x7EA 0x1A 0xF8, (good-engine-line L 0x7E9 0 1, (good-speed-line L 0x7EA 0x20, (good-speed-line L 0x7E9 0x21, tt))))), tt)
+
+good-turned : GoodAll turned
+good-turned = let L : (ℕ → ℕ) = λ p. 0 in good-all turned-run L ((omega arith, (good-7E8 L, (good-7E9 L, tt))), tt)
+
+-- the values of each PID, of 7E9 and of 7E8, as the first two vehicles sent them
+regrouped : SameValues
+    (speedGiven 0x7EA 0x20 ∷ engineGiven 0x7EA 0x1A 0xF8 ∷ engineGiven 0x7E9 0 1 ∷ speedGiven 0x7E9 0x21 ∷ [])
+    (engineGiven 0x7EA 0x1A 0xF8 ∷ engineGiven 0x7E9 0 1 ∷ speedGiven 0x7EA 0x20 ∷ speedGiven 0x7E9 0x21 ∷ [])
+regrouped p = by-test (eqb 0x0D p) (λ t. rw (← eqb-true 0x0D p t) refl) (λ t. rw t refl)
+
+-- the first two records have the same bytes: the PIDs came in different orders, and within each PID the ECUs in the same order
+other-order : hireRecord byLine ≡ hireRecord byPid
+unfolding lineText replyText hexDigit valueFormat groupBytes j1979
+other-order =
+    let same = agreement byLine byPid (by-line-run .ran) (by-pid-run .ran) .equal good-by-line good-by-pid (fits by-line-run refl) (fits by-pid-run refl) in
+    same .1 (rw (by-line-run .reads, by-pid-run .reads) (regrouped, tt))
+
+-- the ECU+1 of the first value
+abbrev ecuOf : List Value → ℕ
+ecuOf [] = 0
+ecuOf (v ∷ vs) = v .ecu
+
+-- and the third has other bytes, since within each PID the ECUs came in the other order
+other-ecu : hireRecord byLine ≡ hireRecord turned → ⊥
+unfolding lineText replyText hexDigit valueFormat groupBytes j1979
+other-ecu h =
+    let same = agreement byLine turned (by-line-run .ran) (turned-run .ran) .equal good-by-line good-turned (fits by-line-run refl) (fits turned-run refl) in
+    let e : _≡_ {A = ℕ} 0x7EA 0x7E9 = ap ecuOf ((rw (by-line-run .reads, turned-run .reads) at (same .0 h)) .0 0x0C) in
+    absurd (omega arith)
+
+-- ---- runs that ended early
+
 -- two parts stand where 6 ended the run, and one where 8 did; the claim holds of them, whatever the queries that never ran
-two-stand : SameFirst 2 (hireRecord first) (hireRecord lastUnasked)
+two-stand : firstParts 2 (hireRecord first) ≡ firstParts 2 (hireRecord lastUnasked)
 unfolding readRecord valueFormat
 two-stand =
     let holds = agreement first lastUnasked (first-run .ran) (unasked-run .ran) .before 2 (omega arith) (omega arith)
@@ -265,7 +381,7 @@ two-stand =
     (good-first unasked-run (λ p. 3) 2 (good-engine (λ p. 3) 0 0xF8, (good-engine (λ p. 3) 0 0xF8, tt))) in
     holds .equal .1 (rw (first-run .reads, unasked-run .reads) ((λ p. refl), ((λ p. refl), tt)))
 
-one-stands : SameFirst 1 (hireRecord first) (hireRecord ended8)
+one-stands : firstParts 1 (hireRecord first) ≡ firstParts 1 (hireRecord ended8)
 unfolding readRecord valueFormat
 one-stands =
     let holds = agreement first ended8 (first-run .ran) (ended8-run .ran) .before 1 (omega arith) (omega arith)

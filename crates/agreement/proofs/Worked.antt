@@ -14,7 +14,7 @@ use Rattle.reply.specs.Reply.{lineText, replyText}
 use Rattle.bench.specs.Script.{Query, query}
 use Rattle.agreement.specs.Vehicle.{given}
 use Rattle.agreement.specs.Ends.{reach}
-use Rattle.agreement.specs.Demand.{givens, commands, SameFirst}
+use Rattle.agreement.specs.Demand.{givens, commands, firstParts}
 
 two-pids : valuesBytes (given (line 0 (0x41 ∷ 0x0C ∷ 0x1A ∷ 0xF8 ∷ 0x0D ∷ 0x20 ∷ []) ∷ [])) ≡
     0x0C ∷ 0xE9 ∷ 0x0F ∷ 0x04 ∷ 0x41 ∷ 0x0C ∷ 0x1A ∷ 0xF8 ∷ 0x0D ∷ 0xE9 ∷ 0x0F ∷ 0x03 ∷ 0x41 ∷ 0x0D ∷ 0x20 ∷ []
@@ -41,11 +41,11 @@ one-fits : reach 17 twice (givens twice) ≡ record { fit = 1; answer = refused 
 unfolding replyText lineText hexDigit valueFormat groupBytes j1979
 one-fits = refl
 
--- a record of two parts, and one that has the first of them alone
+-- records of two parts, and the bytes of the first
 two-parts : length (listOf (readRecord (0x00 ∷ 0x01 ∷ 0x0D ∷ 0xE9 ∷ 0x0F ∷ 0x03 ∷ 0x41 ∷ 0x0D ∷ 0x20 ∷ []))) ≡ 2
 unfolding readRecord valueFormat
 two-parts = refl
 
-same-first : SameFirst 1 (0x00 ∷ 0x01 ∷ 0x0D ∷ 0xE9 ∷ 0x0F ∷ 0x03 ∷ 0x41 ∷ 0x0D ∷ 0x20 ∷ []) (0x00 ∷ [])
-unfolding readRecord valueFormat
-same-first = ((λ p. refl), tt)
+first-part : firstParts 1 (0x01 ∷ 0x0D ∷ 0xE9 ∷ 0x0F ∷ 0x03 ∷ 0x41 ∷ 0x0D ∷ 0x20 ∷ 0x00 ∷ []) ≡ 0x01 ∷ 0x0D ∷ 0xE9 ∷ 0x0F ∷ 0x03 ∷ 0x41 ∷ 0x0D ∷ 0x20 ∷ []
+unfolding firstParts readRecord valueFormat groupBytes
+first-part = refl

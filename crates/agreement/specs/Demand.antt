@@ -1,6 +1,7 @@
 -- Demand 3, its words one by one: "For every list of queries and any two runs of it, each from fresh sessions with framing on and the ATZ echo and
 -- answer arriving as one piece, the two hire records are equal exactly when the two vehicles gave every query the same values in the same order, PID by PID, an
--- unknown ECU read as 7E8." proofs/Agreement.antt proves it, and `run_two` calls `bench::run` twice and ensures it.
+-- unknown ECU read as 7E8." Document 02 §1: "its equality of records becomes equality of bytes, and so does the third demand." What a vehicle gave is still told PID
+-- by PID. Here the two runs may be of two lists: the demand asks less. proofs/Agreement.antt proves it, and `run_two` calls `bench::run` twice and ensures it.
 use mathlib.Core.Path.{_≡_}
 use mathlib.Core.Bool.{Bool}
 use mathlib.Core.Logic.{_↔_}
@@ -8,16 +9,17 @@ use mathlib.Core.List.{List, [], _∷_, map}
 use Prim.Native.Nat.{ℕ, suc, _≤_, _<_}
 use lib.ListN.{length, take, getD}
 use Rattle.wire.specs.Answer.{result, ifResult}
-use Rattle.group.specs.Group.{Read, got, failed, listOf}
-use Rattle.value.specs.Values.{Value, readRecord}
-use Rattle.value.specs.Same.{SameQueries, SameReadings, SameRecord}
+use Rattle.group.specs.Group.{listOf}
+use Rattle.group.specs.Format.{writeRow}
+use Rattle.value.specs.Values.{Value, partFormat, readRecord}
 use Rattle.reply_lines.specs.Lines.{unspaced}
+use Rattle.reply_values.specs.Values.{answerOrder}
 use Rattle.query.specs.Query.{queryText}
 use Rattle.bench.specs.Script.{Query, script}
 use Rattle.bench.specs.declared.BenchRun.{BenchRun}
 use Rattle.bench.specs.Run.{Run, runSays, runAnswer, recorded, runLent}
 use Rattle.agreement.specs.Lines.{GoodLines}
-use Rattle.agreement.specs.Vehicle.{given}
+use Rattle.agreement.specs.Vehicle.{given, SameQueries}
 use Rattle.agreement.specs.Ends.{Reach, stopped, reach}
 
 -- "Every query brings a line list of one line or more"; "A line is 41 and one or more PID values of the table's length; a PID outside the table stands alone on
@@ -40,13 +42,9 @@ commandOf q = unspaced (queryText (q .pids) (q .count))
 abbrev pub commands : List Query → List (List ℕ)
 commands qs = map commandOf qs
 
--- whether the parts of the first n queries of two records, as their bytes are read, agree PID by PID
-abbrev pub firstOf : ℕ → Read (List (List Value)) → Read (List (List Value))
-firstOf n (failed j) = failed j
-firstOf n (got vss rest) = got (take n vss) rest
-
-abbrev pub SameFirst : ℕ → List ℕ → List ℕ → Type 0
-SameFirst n r s = SameReadings (firstOf n (readRecord r)) (firstOf n (readRecord s))
+-- the bytes of a record's first n parts: as many of its own as these parts, as they are read, take when they are written
+unfoldable pub firstParts : ℕ → List ℕ → List ℕ
+firstParts n r = take (length (writeRow partFormat (take n (listOf (readRecord r))))) r
 
 -- A run: what one call of `bench::run` was lent, and what it returned.
 pub record Drive : Type 0 where
@@ -104,6 +102,11 @@ reaches d = ifResult (script (d .scriptBytes)) stopped (λ qs. reach (length (d 
 abbrev pub EveryFits : Drive → Type 0
 EveryFits d = reaches d .answer ≡ result tt
 
+-- What holds of any run: all parts that it wrote are read, and they are the whole record.
+pub record Reads (d : Drive) : Type 0 where
+  pub each : partsStanding d ≡ length (comesTo d .parts)
+  pub all : firstParts (partsStanding d) (hireRecord d) ≡ hireRecord d
+
 -- What holds of a run whose queries, as far as they ran, are the demand's.
 pub record Holds (d : Drive) : Type 0 where
   -- the parts stand of just those queries, from the first on, that fit the limits; and what ended the run, or that nothing did
@@ -111,22 +114,28 @@ pub record Holds (d : Drive) : Type 0 where
   pub answer : runAnswer (d .run .answer) ≡ reaches d .answer
   -- and where every query fits, each has its part
   pub whole : EveryFits d → partsStanding d ≡ length (queries d)
+  -- a part's values are those that the vehicle gave, "by rising PID, and within a PID in reply order" (document 02 §1)
+  pub values : listOf (readRecord (hireRecord d)) ≡ take (partsStanding d) (map answerOrder (givens (queries d)))
   -- "the OBD commands handed to the vehicle are exactly the queries' own texts less spaces, one for each query in the list's order, repeats included"; where 8 or
   -- 6 ends the run, up to the query that ended it
   pub handed : comesTo d .handed ≡ take (suc (partsStanding d)) (commands (queries d))
 
 -- What holds of two runs whose first n queries are the demand's, and have their parts.
 pub record HoldsFirst (n : ℕ) (d e : Drive) : Type 0 where
-  pub equal : SameFirst n (hireRecord d) (hireRecord e) ↔ SameQueries (take n (givens (queries d))) (take n (givens (queries e)))
-  pub one : take n (comesTo d .handed) ≡ take n (commands (queries d))
-  pub two : take n (comesTo e .handed) ≡ take n (commands (queries e))
+  -- "equality of bytes" (document 02 §1), of those of the first n parts
+  pub equal : (firstParts n (hireRecord d) ≡ firstParts n (hireRecord e)) ↔ SameQueries (take n (givens (queries d))) (take n (givens (queries e)))
+  pub handedOne : take n (comesTo d .handed) ≡ take n (commands (queries d))
+  pub handedTwo : take n (comesTo e .handed) ≡ take n (commands (queries e))
 
 -- What holds of two runs.
 pub record Agreement (d e : Drive) : Type 0 where
+  pub readsOne : Reads d
+  pub readsTwo : Reads e
   pub one : GoodRan d → Holds d
   pub two : GoodRan e → Holds e
-  -- "the two hire records are equal exactly when the two vehicles gave every query the same values in the same order, PID by PID"
+  -- "the two hire records are equal exactly when the two vehicles gave every query the same values in the same order, PID by PID"; "its equality of records becomes
+  -- equality of bytes, and so does the third demand" (document 02 §1)
   pub equal : GoodAll d → GoodAll e → EveryFits d → EveryFits e →
-      SameRecord (hireRecord d) (hireRecord e) ↔ SameQueries (givens (queries d)) (givens (queries e))
+      (hireRecord d ≡ hireRecord e) ↔ SameQueries (givens (queries d)) (givens (queries e))
   -- "Where 8 or 6 ends a run, the claim holds, in both runs, of the queries before that point, whose parts stand" (document 01)
   pub before : (n : ℕ) → n ≤ partsStanding d → n ≤ partsStanding e → GoodFirst n d → GoodFirst n e → HoldsFirst n d e

@@ -27,7 +27,7 @@ abbrev pub tooLong : Query → Bool
 tooLong q = ltb 4096 (length (replyText false false true (q .lines)))
 
 -- 8 exactly where a reply is too long, and else 6 exactly where a part overruns the room that is left in the record. The two lists go together: the queries, and the
--- values of each
+-- values of each, in any order, since a part is as long in each
 abbrev pub reach : ℕ → List Query → List (List Value) → Reach
 reach room [] vss = record { fit = 0; answer = result tt }
 reach room (q ∷ qs) [] = record { fit = 0; answer = result tt }
@@ -36,7 +36,7 @@ reach room (q ∷ qs) (vs ∷ vss) =
     cond (tooLong q) (stopped 8)
     (cond (ltb room (length (partFormat .write vs))) (stopped 6) (record { fit = suc (rest .fit); answer = rest .answer }))
 
--- What ends the runs of some queries, in record buffers of any size: each query has its values, whatever the room, and the parts stand of those that fit.
+-- What ends the runs of some queries, in record buffers of any size: each query has some values, the same whatever the room, and the parts stand of those that fit.
 pub record Limited (qs : List Query) (run : ℕ → Run) : Type 0 where
   pub values : List (List Value)
   pub each : length values ≡ length qs

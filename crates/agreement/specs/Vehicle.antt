@@ -5,12 +5,13 @@
 use mathlib.Core.Bool.{cond}
 use mathlib.Core.List.{List, [], _∷_, _++_}
 use mathlib.Core.Option.{Option, none, some}
+use mathlib.Core.Path.{_≡_}
 use Prim.Native.Nat.{ℕ, zero, suc, _+_}
 use lib.Dec.{eqb}
 use lib.ListN.{length}
 use Rattle.pid.specs.J1979.{j1979}
 use Rattle.line_list.specs.Lines.{Line}
-use Rattle.value.specs.Values.{Value, value}
+use Rattle.value.specs.Values.{Value, value, ofPid}
 
 -- "ECU+1 as the line has it, 7E8+1 when unknown"
 abbrev pub givenEcu : ℕ → ℕ
@@ -46,3 +47,13 @@ givenLine e (m ∷ s) = cond (eqb m 0x41) (takes e 0 s .later) []
 abbrev pub given : List Line → List Value
 given [] = []
 given (l ∷ ls) = givenLine (givenEcu (l .ecu)) (l .bytes) ++ given ls
+
+-- "Two vehicles gave the same when all these lists agree": the lists of one query, one for each PID, and query by query
+abbrev pub SameValues : List Value → List Value → Type 0
+SameValues vs ws = (p : ℕ) → ofPid p vs ≡ ofPid p ws
+
+abbrev pub SameQueries : List (List Value) → List (List Value) → Type 0
+SameQueries [] [] = Unit {0}
+SameQueries [] (ws ∷ wss) = ⊥
+SameQueries (vs ∷ vss) [] = ⊥
+SameQueries (vs ∷ vss) (ws ∷ wss) = SameValues vs ws × SameQueries vss wss

@@ -11,7 +11,7 @@ pub struct TwoRuns {
     pub two: BenchRun,
 }
 
-// Two runs of the bench, each with a script, piece lengths, repeat and a record buffer of its own. Their records agree as demand 3 says.
+// Two runs of the bench, each with a script, piece lengths, repeat and a record buffer of its own. Their records are the same bytes exactly when demand 3 says so.
 pub fn run_two(
     script1: &[u8],
     lengths1: &[u8],
