@@ -185,6 +185,14 @@ fn reply(framed: bool, usual: bool, ecus: usize, lines: usize, most: usize) -> V
     text
 }
 
+/// Every PID from FF down, each in a line of its own and without data, over and over up to 4,096 bytes with the prompt.
+fn falling(framed: bool) -> Vec<u8> {
+    let head = if framed { "7E802" } else { "" };
+    let line = format!("{head}41FF\r").len();
+    let lines = (0..=255).rev().cycle().take((4096 - 2) / line).map(|pid| format!("{head}41{pid:02X}\r"));
+    (lines.collect::<String>() + "\r>").into_bytes()
+}
+
 fn print(name: &str, (rust, rattle): (f64, f64)) {
     println!("{name:<64} {rust:>10.0} {rattle:>10.0} {:>8.2}", rust / rattle);
 }
@@ -198,10 +206,12 @@ pub fn bench() {
         let short = reply(framed, false, 1, 1, many);
         let usual = reply(framed, true, 2, 2, many);
         let full = reply(framed, true, 8, many, 4096);
+        let falling = falling(framed);
         for (name, start, text) in [
             ("short", Start::Pid(0x0C, None), &short),
             ("usual", Start::Pids(six.clone(), None), &usual),
             ("full", Start::Pids(six.clone(), None), &full),
+            ("falling", Start::Pids(six.clone(), None), &falling),
         ] {
             let query = times(client_pair(framed, start, text, 128));
             let raw = times(client_pair(framed, Start::Command(b"010C".to_vec()), text, 128));

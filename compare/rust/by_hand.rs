@@ -1,5 +1,5 @@
-//! Cases whose logs are written by hand from document 01: its numbers, at their limits from both sides, with what each leaves in the session. No log here is
-//! taken from the Rust's answers or from this library's. The state is shown before the first call and after each.
+//! Cases whose logs are written by hand: document 01's numbers, at their limits from both sides, with what each leaves in the session, and document 02's order of
+//! PIDs. No log here is taken from the Rust's answers or from this library's. The state is shown before the first call and after each.
 use crate::driver::{client, server, Script};
 use crate::every::WORKED;
 use crate::plan::{put_call, put_number, put_text};
@@ -207,6 +207,20 @@ impl Session<Client> {
     fn replied(self) -> Self {
         self.call(client::PIECE, REPLY, complete(), |c| (c.under, c.last) = (COMPLETE, b"010C"))
             .call(client::FINISH, &[], values(1, VALUE), |c| (c.under, c.count) = (NOTHING, 2))
+    }
+
+    /// Framing is turned on.
+    fn framed(self) -> Self {
+        self.raw(b"ATH1").call(client::PIECE, b">", over(), |c| (c.under, c.framing) = (NOTHING, true))
+    }
+
+    /// A query of 0C, sent in full, gets this reply and gives these values; then the count of 0C and 1 is so much.
+    fn gives(self, reply: &[u8], records: &[&[u8]], count: usize) -> Self {
+        let (all, last) = reply.split_at((reply.len() - 1) / 128 * 128);
+        all.chunks(128)
+            .fold(self.query(), Self::piece)
+            .call(client::PIECE, last, complete(), |c| (c.under, c.last) = (COMPLETE, b"010C"))
+            .call(client::FINISH, &[], values(records.len(), &records.concat()), |c| (c.under, c.count) = (NOTHING, count))
     }
 
     /// Any end of the wait for the ATZ answer: ATE0 goes out, a raw command.
@@ -542,7 +556,7 @@ fn failures() -> Vec<Written> {
         .call(client::PIECE, REPLY, complete(), |c| (c.under, c.last) = (COMPLETE, b"010C0C"))
         .call(client::FINISH, &[], values(1, VALUE), |c| (c.under, c.multi, c.count) = (NOTHING, YES, 2));
     let mut raw = fresh(false, true);
-    let mut setup = fresh(false, true).raw(b"ATH1").call(client::PIECE, b">", over(), |c| (c.under, c.framing) = (NOTHING, true));
+    let mut setup = fresh(false, true).framed();
     for kind in FAILURES {
         found = twice(found).failed(kind, &[], 7);
         raw = raw.raw(b"ATH1").piece(b"OK").failed(kind, &[], 7);
@@ -657,6 +671,79 @@ fn order() -> Vec<Written> {
     vec![client.case("client"), nothing.case("server, nothing handed out"), handed.case("commands handed out"), full.case("11 before 10")]
 }
 
+/// Document 02 §1: "values now stand by rising PID, and within a PID in reply order." The replies, but for those of E0 alone, have another order.
+fn rising() -> Vec<Written> {
+    let unframed = || fresh(false, false);
+    let framed = || fresh(false, false).framed();
+    let speed = &[0x0C, 0x00, 0x04, 0x41, 0x0C, 0x1A, 0xF8];
+    let kmh = &[0x0D, 0x00, 0x03, 0x41, 0x0D, 0x20];
+    let later = &[0x0D, 0x00, 0x03, 0x41, 0x0D, 0x21];
+    let none = &[0xE0, 0x00, 0x02, 0x41, 0xE0];
+    let lines = unframed().gives(b"410D20\r410C1AF8\r\r>", &[speed, kmh], 2);
+    // PIDs are whole bytes: 80 and C0 stand after 0D, though 80 less its top bit is 00.
+    let line = unframed().gives(
+        b"41 C0 01 02 03 04 80 05 06 07 08 0D 20\r\r>",
+        &[kmh, &[0x80, 0x00, 0x06, 0x41, 0x80, 5, 6, 7, 8], &[0xC0, 0x00, 0x06, 0x41, 0xC0, 1, 2, 3, 4]],
+        0,
+    );
+    let ends = unframed().gives(b"41FF0102\r4100BE1FA813\r\r>", &[&[0x00, 0x00, 0x06, 0x41, 0x00, 0xBE, 0x1F, 0xA8, 0x13], &[0xFF, 0x00, 0x04, 0x41, 0xFF, 1, 2]], 0);
+    let twice = unframed().gives(b"410D200C1AF80D21\r\r>", &[speed, kmh, later], 2);
+    // 7E9's line stands first, and so do its values within each PID.
+    let ecus = framed().gives(
+        b"7E906410D200C1AF8\r7E806410C00010D21\r\r>",
+        &[
+            &[0x0C, 0xEA, 0x0F, 0x04, 0x41, 0x0C, 0x1A, 0xF8],
+            &[0x0C, 0xE9, 0x0F, 0x04, 0x41, 0x0C, 0x00, 0x01],
+            &[0x0D, 0xEA, 0x0F, 0x03, 0x41, 0x0D, 0x20],
+            &[0x0D, 0xE9, 0x0F, 0x03, 0x41, 0x0D, 0x21],
+        ],
+        3,
+    );
+    // Card 4's line, whose ECU is not known, before one of 7E8.
+    let unknown = framed().gives(b"A12\r7E8 03 41 0D 20\r\r>", &[&[0x0D, 0xE9, 0x0F, 0x03, 0x41, 0x0D, 0x20], &[0x31, 0x00, 0x03, 0x41, 0x31, 0x32]], 0);
+    let learned = unframed()
+        .start(client::QUERY_PID, &[0xE0], b"01E0\r", QUERY)
+        .call(client::PIECE, b"41E0\r\r>", complete(), |c| (c.under, c.last) = (COMPLETE, b"01E0"))
+        .call(client::FINISH, &[], values(1, none), |c| c.under = NOTHING)
+        .gives(b"41E0E0E0\r\r>", &[none, none, none], 0)
+        .gives(b"41E00D20E00C1AF8E0\r\r>", &[speed, kmh, none, none, none], 2);
+    // Every PID in a line of its own, without data, from FF down.
+    let reply: String = (0..=255).rev().map(|pid| format!("41{pid:02X}\r")).collect();
+    let records: Vec<[u8; 5]> = (0..=255).map(|pid| [pid, 0x00, 0x02, 0x41, pid]).collect();
+    let all = unframed().gives((reply + ">").as_bytes(), &records.iter().map(|record| &record[..]).collect::<Vec<_>>(), 2);
+    vec![
+        lines.case("0D, 0C"),
+        line.case("C0, 80, 0D on a line"),
+        ends.case("FF, 00"),
+        twice.case("0D, 0C, 0D on a line"),
+        ecus.case("two ECUs"),
+        unknown.case("31 of an unknown ECU, 0D"),
+        learned.case("E0 of length 0"),
+        all.case("every PID"),
+        rising_run(),
+    ]
+}
+
+/// The same of a hire record: PIDs 0D and 0C, asked in that order of two ECUs, of which 7E9 has them in it too.
+fn rising_run() -> Written {
+    let script = vec![
+        0x02, 0x0D, 0x0C, 0x00, 0x02, // two lines
+        0xEA, 0x0F, 0x06, 0x41, 0x0D, 0x20, 0x0C, 0x1A, 0xF8, //
+        0xE9, 0x0F, 0x06, 0x41, 0x0C, 0x00, 0x01, 0x0D, 0x21,
+    ];
+    let record = [
+        &[0x04][..],
+        &[0x0C, 0xEA, 0x0F, 0x04, 0x41, 0x0C, 0x1A, 0xF8],
+        &[0x0C, 0xE9, 0x0F, 0x04, 0x41, 0x0C, 0x00, 0x01],
+        &[0x0D, 0xEA, 0x0F, 0x03, 0x41, 0x0D, 0x20],
+        &[0x0D, 0xE9, 0x0F, 0x03, 0x41, 0x0D, 0x21],
+    ]
+    .concat();
+    let mut log = Vec::new();
+    put_call(&mut log, 64, 0, &record);
+    Written { name: "a bench run", kind: RUN + 1, room: record.len(), script: Script { bytes: script, calls: 0 }, log }
+}
+
 /// The cases, under their headings.
 pub fn by_hand() -> Vec<(&'static str, Vec<Written>)> {
     vec![
@@ -673,5 +760,6 @@ pub fn by_hand() -> Vec<(&'static str, Vec<Written>)> {
         ("by hand, a full line (10)", line_full()),
         ("by hand, a reader's byte of 80 or more (11)", high_byte()),
         ("by hand, the first that applies", order()),
+        ("by hand, PIDs in rising order", rising()),
     ]
 }

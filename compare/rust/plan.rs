@@ -3,7 +3,7 @@ use crate::driver::{Log, Script};
 use crate::server::put_group;
 use std::collections::BTreeMap;
 
-/// Values by PID, in reply order: ECU+1 (0 when unknown) and data.
+/// Values by PID, each PID's in reply order: ECU+1 (0 when unknown) and data. The map is walked by rising PID.
 pub type Values = BTreeMap<u8, Vec<(u16, Vec<u8>)>>;
 
 /// A query's part of a hire record.
@@ -258,76 +258,57 @@ pub fn put_call(to: &mut Vec<u8>, code: u8, count: usize, sent: &[u8]) {
     put_text(to, sent);
 }
 
-/// The Rust's values as records, their PIDs in the order that others have; within a PID they stay in their own order.
-fn put_values(to: &mut Vec<u8>, values: &Values, order: &[u8]) {
-    let mut taken = BTreeMap::new();
-    for pid in order.iter().chain(values.keys().flat_map(|pid| vec![pid; values[pid].len()])) {
-        let next: &mut usize = taken.entry(*pid).or_default();
-        let Some((ecu, data)) = values.get(pid).and_then(|found| found.get(*next)) else { continue };
-        *next += 1;
-        to.push(*pid);
-        put_group(to, usize::from(*ecu));
-        put_group(to, data.len());
-        to.extend_from_slice(data);
+/// The Rust's values as records. Document 02 §1: by rising PID, which is the order that the map is walked in, and within a PID in reply order.
+fn put_values(to: &mut Vec<u8>, values: &Values) {
+    for (pid, found) in values {
+        for (ecu, data) in found {
+            to.push(*pid);
+            put_group(to, usize::from(*ecu));
+            put_group(to, data.len());
+            to.extend_from_slice(data);
+        }
     }
 }
 
-/// The PIDs of values, in their order.
-fn order(bytes: &[u8], at: &mut usize, count: usize) -> Vec<u8> {
-    (0..count).map_while(|_| read_value(bytes, at)).map(|(pid, _)| pid).collect()
+/// A query's part as it stands in a hire record: the number of its values, and the values.
+pub fn part_bytes(part: &Part) -> Vec<u8> {
+    let mut bytes = Vec::new();
+    put_group(&mut bytes, total(part));
+    put_values(&mut bytes, part);
+    bytes
 }
 
 impl Plan {
-    /// The log that the Rust's answers give. Document 01 leaves the order of PIDs within an answer free: it is taken from another log, and nothing else is.
-    pub fn log(&self, mut other: Log) -> Vec<u8> {
+    /// The log that the Rust's answers give. The order of PIDs, which the Rust's maps do not have, is document 02's; nothing is taken from this library's log.
+    pub fn log(&self) -> Vec<u8> {
         let mut log = Vec::new();
         for (_, expected) in &self.expected {
             match expected {
                 Expected::Calls { calls, code, count, sent } => {
                     assert_eq!(*calls, 1, "the Rust does not tell the bytes that it sent for each of several calls");
-                    other.answer();
                     put_call(&mut log, *code, *count, sent);
                 }
                 Expected::Server { settings, phase, last, line } => {
-                    other.bytes(5);
-                    (other.text(), other.text());
                     log.extend(settings.map(u8::from));
                     log.push(*phase);
                     put_text(&mut log, last);
                     put_text(&mut log, line);
                 }
                 Expected::Values { values, .. } => {
-                    let answer = other.answer();
                     let mut sent = Vec::new();
-                    put_values(&mut sent, values, &order(answer.sent, &mut 0, answer.count));
+                    put_values(&mut sent, values);
                     put_call(&mut log, 64, total(values), &sent);
                 }
                 Expected::Client { framing, repeat, multi, last, known } => {
-                    other.bytes(4);
-                    other.text();
                     log.extend([u8::from(*framing), *repeat, *multi, 0]);
                     put_text(&mut log, last);
                     for (_, (length, count)) in known {
-                        (other.number(), other.number());
                         put_number(&mut log, *length);
                         put_number(&mut log, *count);
                     }
                 }
-                Expected::Reply(reply) => {
-                    other.text();
-                    put_text(&mut log, reply);
-                }
-                Expected::Run { code, parts } => {
-                    let answer = other.answer();
-                    let mut at = 0;
-                    let mut sent = Vec::new();
-                    for part in parts {
-                        let count = number(answer.sent, &mut at).unwrap_or(0);
-                        put_group(&mut sent, total(part));
-                        put_values(&mut sent, part, &order(answer.sent, &mut at, count));
-                    }
-                    put_call(&mut log, *code, 0, &sent);
-                }
+                Expected::Reply(reply) => put_text(&mut log, reply),
+                Expected::Run { code, parts } => put_call(&mut log, *code, 0, &parts.iter().flat_map(part_bytes).collect::<Vec<u8>>()),
             }
         }
         log

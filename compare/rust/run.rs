@@ -1,7 +1,7 @@
 //! Whole bench runs: the Rust's side of a case. A client session of the Rust is joined to a server session of the Rust, in lock step.
 use crate::client::{config, values};
 use crate::driver::{Driver, Log};
-use crate::plan::{shown, Expected, Part, Plan};
+use crate::plan::{part_bytes, shown, Expected, Part, Plan};
 use crate::server::{put_group, reply_lines, Line, Own};
 use crate::shrink::{shorter, Case};
 use crate::stream::{Arrival, Empty, Stream};
@@ -217,19 +217,6 @@ impl Write for Near {
     }
 }
 
-/// How many bytes a query's part of the record takes, whatever the order of its PIDs.
-fn size(part: &Part) -> usize {
-    let mut bytes = Vec::new();
-    put_group(&mut bytes, part.values().map(Vec::len).sum());
-    for (ecu, data) in part.values().flatten() {
-        bytes.push(0);
-        put_group(&mut bytes, usize::from(*ecu));
-        put_group(&mut bytes, data.len());
-        bytes.extend_from_slice(data);
-    }
-    bytes.len()
-}
-
 impl RunCase {
     /// How the run ends, and the parts that stand.
     pub fn through_the_rust(&self, plan: &mut Plan) -> (u8, Vec<Part>) {
@@ -258,11 +245,12 @@ impl RunCase {
                 code = TOO_MUCH;
                 break;
             }
-            if room < size(&part) {
+            let size = part_bytes(&part).len();
+            if room < size {
                 code = RECORD_FULL;
                 break;
             }
-            room -= size(&part);
+            room -= size;
             parts.push(part);
         }
         plan.script.calls = far.borrow().calls;

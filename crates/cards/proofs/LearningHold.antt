@@ -19,7 +19,7 @@ use Rattle.client_session.specs.Start.{commandSays, querySays}
 use Rattle.client_session.specs.Piece.{replyTakes, pieceSays}
 use Rattle.client_session.specs.Finish.{finishSays}
 use Rattle.cards.specs.Example.{AsExpected}
-use Rattle.cards.specs.Learning.{learning, numbered}
+use Rattle.cards.specs.Learning.{learning, orders, numbered}
 use Rattle.cards.proofs.ExampleLaws.{_&_}
 
 pub learning-holds : AsExpected learning
@@ -29,6 +29,11 @@ learning-holds =
     refl & refl & refl & refl & refl & refl & refl & refl & refl & refl &
     refl & refl & refl & refl & refl & refl & refl & refl & refl & refl &
     refl & tt
+
+pub orders-hold : AsExpected orders
+unfolding isSpace raised has high hexDigit digit leading j1979 mode01Lengths groupBytes valueFormat queryText textLines textLine replyLines walked
+    answerOrder learnLength unless framingEffect commandSays querySays replyTakes pieceSays finishSays
+orders-hold = refl & refl & refl & refl & refl & refl & refl & refl & refl & tt
 
 pub numbered-hold : AsExpected numbered
 unfolding isSpace raised has high hexDigit digit leading j1979 mode01Lengths groupBytes valueFormat queryText textLines textLine replyLines walked

@@ -12,13 +12,12 @@ use Rattle.line_list.specs.Lines.{line, Fits, lineList}
 use Rattle.line_list.specs.Answers.{lineAt, linesIn, putLine}
 use Rattle.value.specs.Values.{valueFormat, readRecord}
 use Rattle.value.specs.Answers.{valueAt}
-use Rattle.value.specs.Same.{SameRecord}
 use Rattle.pid.specs.J1979.{j1979}
 use Rattle.pid.specs.Lengths.{mode01Lengths}
 use Rattle.bench.specs.Script.{query, InLimits, queryFormat, script}
 use Rattle.bench.specs.Steps.{queryAt, queriesIn}
 use Rattle.cards.specs.Example.{AsExpected}
-use Rattle.cards.specs.Numbers.{numbers, twoParts}
+use Rattle.cards.specs.Numbers.{numbers}
 use Rattle.cards.proofs.ExampleLaws.{_&_}
 
 pub numbers-hold : AsExpected numbers
@@ -29,15 +28,6 @@ numbers-hold =
     refl & refl & refl & refl & refl & refl & refl & refl & refl & refl &
     refl & refl & refl & refl & refl & refl & refl & refl & refl & refl &
     refl & refl & tt
-
--- a record equals itself, and bytes that are no record equal nothing
-pub same-parts : SameRecord twoParts twoParts
-unfolding SameRecord readRecord valueFormat
-same-parts = ((λ p. refl), ((λ p. refl), tt))
-
-pub no-parts : SameRecord (1 ∷ []) (1 ∷ []) → ⊥
-unfolding SameRecord readRecord valueFormat
-no-parts h = h
 
 -- a query at all limits of a script, and a line past those of a line list
 pub at-limits : Each InLimits (query (replicate 6 0x0C) 256 (line 4096 (replicate 255 0) ∷ []) ∷ [])

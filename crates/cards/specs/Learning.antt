@@ -1,5 +1,5 @@
--- Examples of what finishing a query gives and learns. Document 01, client_session.rs; the Rust's `parse_reply`, `learn_pid_data_length`, `learn_ecu_counts` and
--- `validate_multi_pid_support`.
+-- Examples of what finishing a query gives and learns. Document 01, client_session.rs; document 02 §1; the Rust's `parse_reply`, `learn_pid_data_length`,
+-- `learn_ecu_counts` and `validate_multi_pid_support`.
 use mathlib.Core.Bool.{true, false}
 use mathlib.Core.List.{List, [], _∷_, _++_, map}
 use mathlib.Core.Option.{none, some}
@@ -77,7 +77,7 @@ learning =
     example "with room for 16 bytes nothing is learned or written" (readUnlike 16) (replyRead (record { answer = count.Refused SmallBuffer; written = 0; server = framed .server }) (replicate 16 9)) ∷
     example "which is 6, and 8 for a reply over 4,096 bytes" (readUnlike 16 .answer ∷ readE0 (replicate 4097 13) [] .answer ∷ []) (refused 6 ∷ refused 8 ∷ []) ∷
     example "a length of 1 that is learned cuts the value after it, and the byte left is a PID without data" (unframedE0 .text)
-    (0xE0 ∷ 0 ∷ 3 ∷ 0x41 ∷ 0xE0 ∷ 0x01 ∷ 0x0D ∷ 0 ∷ 3 ∷ 0x41 ∷ 0x0D ∷ 0x20 ∷ 0xE0 ∷ 0 ∷ 3 ∷ 0x41 ∷ 0xE0 ∷ 0x01 ∷ 0x02 ∷ 0 ∷ 2 ∷ 0x41 ∷ 0x02 ∷ []) ∷
+    (0x02 ∷ 0 ∷ 2 ∷ 0x41 ∷ 0x02 ∷ 0x0D ∷ 0 ∷ 3 ∷ 0x41 ∷ 0x0D ∷ 0x20 ∷ 0xE0 ∷ 0 ∷ 3 ∷ 0x41 ∷ 0xE0 ∷ 0x01 ∷ 0xE0 ∷ 0 ∷ 3 ∷ 0x41 ∷ 0xE0 ∷ 0x01 ∷ []) ∷
     example "the counts of E0, 0D and 02 are 2, 1 and 1" (map (countIn (unframedE0 .next .server .«ecu_counts»)) (0xE0 ∷ 0x0D ∷ 0x02 ∷ [])) (3 ∷ 2 ∷ 2 ∷ []) ∷
     example "`query_pids` of E0 alone learns no length" (lengthIn (finishWith (querySays 80 framed (0xE0 ∷ []) 0 true) alike .next .server .«pid_lengths») 0xE0) none ∷
     example "a length of 0, and data over 255 bytes"
@@ -108,6 +108,38 @@ learning =
         pending = record { under = under.Idle; got = 0 };
       };
     }) (0x0C ∷ 0x00 ∷ 0x04 ∷ 0x41 ∷ 0x0C ∷ 0x1A ∷ 0xF8 ∷ 9 ∷ 9 ∷ [])) ∷
+    []
+
+-- the values of a reply to 0D and 0C
+abbrev inOrder : Client → String → List ℕ
+inOrder c t = finishWith (querySays 80 c (0x0D ∷ 0x0C ∷ []) 0 true) t .text
+
+-- a session that has learned E0 to have no data
+abbrev knowsE0 : Client
+knowsE0 = finishWith (querySays 80 new (0xE0 ∷ []) 0 false) "41E0\r\r>" .next
+
+-- document 02 §1: "values now stand by rising PID, and within a PID in reply order"
+abbrev pub orders : List Example
+orders =
+    example "0D and then 0C: 0C stands first" (inOrder new "410D20\r410C1AF8\r\r>")
+    (0x0C ∷ 0 ∷ 4 ∷ 0x41 ∷ 0x0C ∷ 0x1A ∷ 0xF8 ∷ 0x0D ∷ 0 ∷ 3 ∷ 0x41 ∷ 0x0D ∷ 0x20 ∷ []) ∷
+    example "C0 and then 0D on a line: 0D stands first" (inOrder new "41C0000000000D20\r\r>")
+    (0x0D ∷ 0 ∷ 3 ∷ 0x41 ∷ 0x0D ∷ 0x20 ∷ 0xC0 ∷ 0 ∷ 6 ∷ 0x41 ∷ 0xC0 ∷ 0 ∷ 0 ∷ 0 ∷ 0 ∷ []) ∷
+    example "80, which is 00 but for its top bit, and then 0D: 0D stands first" (inOrder new "4180010203040D20\r\r>")
+    (0x0D ∷ 0 ∷ 3 ∷ 0x41 ∷ 0x0D ∷ 0x20 ∷ 0x80 ∷ 0 ∷ 6 ∷ 0x41 ∷ 0x80 ∷ 1 ∷ 2 ∷ 3 ∷ 4 ∷ []) ∷
+    example "FF and then 00: 00 stands first" (inOrder new "41FF01\r410000000000\r\r>")
+    (0x00 ∷ 0 ∷ 6 ∷ 0x41 ∷ 0x00 ∷ 0 ∷ 0 ∷ 0 ∷ 0 ∷ 0xFF ∷ 0 ∷ 3 ∷ 0x41 ∷ 0xFF ∷ 0x01 ∷ []) ∷
+    example "0D, 0C and 0D on a line: 0C stands first, then 0D twice" (inOrder new "410D200C1AF80D21\r\r>")
+    (0x0C ∷ 0 ∷ 4 ∷ 0x41 ∷ 0x0C ∷ 0x1A ∷ 0xF8 ∷ 0x0D ∷ 0 ∷ 3 ∷ 0x41 ∷ 0x0D ∷ 0x20 ∷ 0x0D ∷ 0 ∷ 3 ∷ 0x41 ∷ 0x0D ∷ 0x21 ∷ []) ∷
+    example "card 4's line, of no known ECU, and then 0D of 7E8" (inOrder framed "A12\r7E803410D20\r\r>")
+    (0x0D ∷ 0xE9 ∷ 0x0F ∷ 0x03 ∷ 0x41 ∷ 0x0D ∷ 0x20 ∷ 0x31 ∷ 0x00 ∷ 0x03 ∷ 0x41 ∷ 0x31 ∷ 0x32 ∷ []) ∷
+    example "7E9 and then 7E8, with 0C and 0D in both orders: 7E9's value stands first of each PID" (inOrder framed "7E906410D200C1AF8\r7E806410C00010D21\r\r>")
+    (0x0C ∷ 0xEA ∷ 0x0F ∷ 0x04 ∷ 0x41 ∷ 0x0C ∷ 0x1A ∷ 0xF8 ∷ 0x0C ∷ 0xE9 ∷ 0x0F ∷ 0x04 ∷ 0x41 ∷ 0x0C ∷ 0x00 ∷ 0x01 ∷
+    0x0D ∷ 0xEA ∷ 0x0F ∷ 0x03 ∷ 0x41 ∷ 0x0D ∷ 0x20 ∷ 0x0D ∷ 0xE9 ∷ 0x0F ∷ 0x03 ∷ 0x41 ∷ 0x0D ∷ 0x21 ∷ []) ∷
+    example "a PID of a learned length of 0, three times on a line" (inOrder knowsE0 "41E0E0E0\r\r>")
+    (0xE0 ∷ 0 ∷ 2 ∷ 0x41 ∷ 0xE0 ∷ 0xE0 ∷ 0 ∷ 2 ∷ 0x41 ∷ 0xE0 ∷ 0xE0 ∷ 0 ∷ 2 ∷ 0x41 ∷ 0xE0 ∷ []) ∷
+    example "and twice before 0D: 0D stands first" (inOrder knowsE0 "41E0E00D20\r\r>")
+    (0x0D ∷ 0 ∷ 3 ∷ 0x41 ∷ 0x0D ∷ 0x20 ∷ 0xE0 ∷ 0 ∷ 2 ∷ 0x41 ∷ 0xE0 ∷ 0xE0 ∷ 0 ∷ 2 ∷ 0x41 ∷ 0xE0 ∷ []) ∷
     []
 
 -- 0C and 0D asked, and 0C alone; the session when the reply, of 15 bytes, is complete

@@ -15,9 +15,8 @@ use Rattle.group.specs.Format.{writeRow}
 use Rattle.line_list.specs.Lines.{line, lineFormat, linesBytes}
 use Rattle.line_list.specs.Answers.{listStep, lineAt, linesIn, putLine}
 use Rattle.line_list.specs.declared.LineStep.the-variants as lineSteps
-use Rattle.value.specs.Values.{Value, value, valueFormat, partFormat, readRecord}
+use Rattle.value.specs.Values.{Value, value, valueFormat, partFormat, readRecord, ofPid}
 use Rattle.value.specs.Answers.{valueStep, valueAt}
-use Rattle.value.specs.Same.{ofPid}
 use Rattle.value.specs.declared.ValueStep.the-variants as valueSteps
 use Rattle.pid.specs.J1979.{j1979}
 use Rattle.pid.specs.Lengths.{mode01Lengths, entryLength, lengthIn, dataLength, listed}

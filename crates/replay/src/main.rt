@@ -1,5 +1,5 @@
-// Replays the sessions and bench runs of a stored list, from standard input, and holds each log to the stored one: what the Rust's answers gave, or what document 01
-// asks for, written by hand. compare/README.md says how the list is made. An entry is a byte for its kind, four numbers of two bytes, the lower first, and three
+// Replays the sessions and bench runs of a stored list, from standard input, and holds each log to the stored one: what the Rust's answers gave, or what documents 01
+// and 02 ask for, written by hand. compare/README.md says how the list is made. An entry is a byte for its kind, four numbers of two bytes, the lower first, and three
 // texts. The numbers are the size of the record buffer and the lengths of the texts: piece lengths, script, and stored log. Kind 0 is a heading, which is the third
 // text.
 use libc::STDIN_FILENO;
@@ -70,7 +70,7 @@ fn no_cases() -> Tally
 
 // One more case.
 fn add_case(before: Tally, verdict: Verdict) -> Tally
-    requires { ⌜ before .cases ≤ 196608 ⌝ }
+    requires { ⌜ before .cases ≤ 262144 ⌝ }
     ensures { λ r. ⌜ r ≡ tallied before verdict ⌝ }
 {
     let cases = before.cases + 1;
@@ -237,7 +237,7 @@ fn head(list: &[u8], entry: Entry, before: Tally, at: usize) -> Tally
 }
 
 fn main() {
-    let mut list = [0u8; 196608];
+    let mut list = [0u8; 262144];
     let n = io::read_full(STDIN_FILENO, &mut list);
     let mut store = [0u8; 4096];
     let mut out = [0u8; 65536];

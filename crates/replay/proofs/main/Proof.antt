@@ -10,7 +10,7 @@ use Rattle.replay.proofs.main.Statement.{statement}
 use Rattle.replay.proofs.main.Tie as tie
 
 abbrev Inv-loop : tie.InvT-loop
-Inv-loop list n store₀ out₀ log₀ under₀ at₀ store out log under at = (at ≤ n) × (n ≤ 196608) × (length list ≡ 196608) × (length store ≡ 4096) ×
+Inv-loop list n store₀ out₀ log₀ under₀ at₀ store out log under at = (at ≤ n) × (n ≤ 262144) × (length list ≡ 262144) × (length store ≡ 4096) ×
     (length out ≡ 65536) × (length log ≡ 65536) × (under .cases ≤ at)
 
 abbrev μ-loop : tie.MeasureT-loop
@@ -68,20 +68,20 @@ replay-requires : tie.Need-replay-requires Inv-loop μ-loop
 replay-requires c κs = search needs
 
 add-case-requires : tie.Need-add-case-requires Inv-loop μ-loop
-add-case-requires c κs = search needs
+add-case-requires c κs = omega arith
 
 loop-less : tie.Need-loop-less Inv-loop μ-loop
 loop-less c = search needs
 
 loop-again : tie.Need-loop-again Inv-loop μ-loop
-loop-again c = search needs
+loop-again c = (search needs, search needs, search needs, search needs, search needs, search needs, omega (arith, c .head .ensures))
 
 loop-less-2 : tie.Need-loop-less-2 Inv-loop μ-loop
-loop-less-2 c = search needs
+loop-less-2 c = omega arith
 
 loop-again-2 : tie.Need-loop-again-2 Inv-loop μ-loop
 loop-again-2 c = (
-  search needs,
+  omega arith,
   search needs,
   search needs,
   search needs,
