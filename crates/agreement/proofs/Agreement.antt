@@ -6,7 +6,7 @@ use Prim.Native.Nat.{ℕ, zero, suc, _-_, _≤_, _<_}
 use native.Mathlib.Omega.{arith}
 use lib.Dec.{ltb}
 use borrow.Author.Tests.{ltb-true, ltb-false}
-use lib.ListN.{length, take, drop, length-take, length-append}
+use lib.ListN.{length, take, drop, length-take, length-append, length-map}
 use lib.Seq.{sets, take-all, take-take, take-append-seam}
 use Rattle.group.specs.Format.{writeRow}
 use Rattle.group.specs.Group.{listOf}
@@ -135,11 +135,7 @@ module _ (d : Drive) where
   fits-whole : EveryFits d → reaches d .fit ≡ length (queries d)
   fits-whole f = fits-by (script (d .scriptBytes)) refl f
 
--- as many parts as lists of values, and those of what was given in the order of an answer
-length-parts : (vss : List (List Value)) → length (map (partFormat .write) vss) ≡ length vss
-length-parts [] = refl
-length-parts (vs ∷ vss) = ap suc (length-parts vss)
-
+-- the values of a run's parts are what was given, in the order of an answer
 ordered-givens : (qs : List Query) → ordered qs ≡ map answerOrder (givens qs)
 ordered-givens [] = refl
 ordered-givens (q ∷ qs) = ap (λ vss. answerOrder (given (q .lines)) ∷ vss) (ordered-givens qs)
@@ -236,7 +232,7 @@ module _ (d : Drive) (r : Ran d) where
       record {
         each =
             stand-is 0 t ∙
-            (omega (arith, ap length (t .parts), length-parts (standing 0 t), length-take n (t .values), t .few));
+            (omega (arith, ap length (t .parts), length-map (standing 0 t) (partFormat .write), length-take n (t .values), t .few));
         all =
             ap (λ n. firstParts n (hireRecord d)) (stand-is 0 t) ∙ ap (firstParts n) (record-is 0 t) ∙ first-parts n (standing 0 t) (standing-fits 0 t)
             ∙ ap (writeRow partFormat) (take-take n n (t .values) (omega arith)) ∙ sym (record-is 0 t);
