@@ -13,7 +13,7 @@ use Rattle.hex.specs.Digits.{hexDigit, hexDigits, hexByte, hexBytes}
 use Rattle.wire.proofs.All.{All, all-append}
 use Rattle.hex.proofs.DigitLaws.{digit-between, digits-all, bytes-all, bytes-back, id-back}
 use Rattle.line_list.specs.Lines.{line}
-use Rattle.reply_lines.specs.Lines.{splitCR, trimStart, trimmed, stays, textLines, unspaced}
+use Rattle.reply_lines.specs.Lines.{splitCR, isTrimmed, trimStart, trimmed, stays, textLines, characters}
 use Rattle.reply_lines.specs.Decode.{textLine}
 use Rattle.reply_lines.proofs.DecodeLaws.{line-framed}
 
@@ -21,9 +21,9 @@ use Rattle.reply_lines.proofs.DecodeLaws.{line-framed}
 abbrev pub Plain : ℕ → Type 0
 Plain c = (33 ≤ c) × (c ≡ 62 → ⊥)
 
-plain-space : (c : ℕ) → 33 ≤ c → isSpace c ≡ false
+pub plain-end : (c : ℕ) → 33 ≤ c → isTrimmed c ≡ false
 unfolding isSpace
-plain-space c h = simp (le-leb 9 c (omega arith), lt-leb c 13 (omega arith), ne-eqb c 32 (omega arith))
+plain-end c h = simp (ne-eqb c 0 (omega arith), le-leb 9 c (omega arith), lt-leb c 13 (omega arith), ne-eqb c 32 (omega arith))
 
 plain-split : (s rest : List ℕ) → All Plain s → splitCR (s ++ (13 ∷ rest)) ≡ s ∷ splitCR rest
 plain-split [] rest a = refl
@@ -31,7 +31,7 @@ plain-split (c ∷ s) rest a = let h = a .0 .0 in rw (ne-eqb c 13 (omega arith),
 
 plain-start : (s : List ℕ) → All Plain s → trimStart s ≡ s
 plain-start [] a = refl
-plain-start (c ∷ s) a = rw (plain-space c (a .0 .0))
+plain-start (c ∷ s) a = rw (plain-end c (a .0 .0))
 
 plain-reversed : (s t : List ℕ) → All Plain s → All Plain t → All Plain (reverseAux s t)
 plain-reversed [] t a b = b
@@ -68,9 +68,9 @@ prompt-line = refl
 
 -- ---- digits
 
-pub plain-unspaced : (s : List ℕ) → All Plain s → unspaced s ≡ s
-plain-unspaced [] a = refl
-plain-unspaced (c ∷ s) a = let h = a .0 .0 in rw (ne-eqb c 32 (omega arith), plain-unspaced s (a .1))
+pub plain-characters : (s : List ℕ) → All Plain s → characters s ≡ s
+plain-characters [] a = refl
+plain-characters (c ∷ s) a = let h = a .0 .0 in rw (ne-eqb c 0 (omega arith), ne-eqb c 32 (omega arith), plain-characters s (a .1))
 
 -- they are plain
 digit-plain : (d : ℕ) → d < 16 → Plain (hexDigit d)
@@ -88,5 +88,5 @@ framed-plain n k d =
 -- an id, a length byte, whatever it says, and data
 pub framed-back : (n k : ℕ) (d : List ℕ) → n < 4096 → All (λ b. b < 256) d → textLine true (hexDigits 3 n ++ (hexByte k ++ hexBytes d)) ≡ line (suc n) d
 framed-back n k d h a =
-    line-framed (hexDigits 3 n ++ (hexByte k ++ hexBytes d)) (hexDigits 3 n ++ hexByte k) (hexBytes d) (plain-unspaced _ (framed-plain n k d)) refl
+    line-framed (hexDigits 3 n ++ (hexByte k ++ hexBytes d)) (hexDigits 3 n ++ hexByte k) (hexBytes d) (plain-characters _ (framed-plain n k d)) refl
     ∙ rw (id-back n h, bytes-back d a)

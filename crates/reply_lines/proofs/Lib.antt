@@ -5,3 +5,4 @@ pub mod DecodeLaws
 pub mod BackLaws
 mod PartLaws
 pub mod WalkLaws
+pub mod NullLaws

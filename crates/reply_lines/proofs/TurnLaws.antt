@@ -9,9 +9,8 @@ use lib.Dec.{eqb, ltb}
 use lib.ListN.{length, take, drop, length-take, length-drop, drop-of-length-le, take-append-drop}
 use lib.Seq.{take-all, take-nil, take-take, drop-drop, take-append-seam}
 use borrow.Author.Tests.{ltb-true, ltb-false}
-use Rattle.wire.specs.Text.{isSpace}
 use Rattle.wire.proofs.Cases.{by-test}
-use Rattle.reply_lines.specs.Lines.{splitCR, trimStart, trimEnd, trimmed, stays, textLines}
+use Rattle.reply_lines.specs.Lines.{splitCR, isTrimmed, trimStart, trimEnd, trimmed, stays, textLines}
 use Rattle.reply_lines.specs.Reader.{lineFrom}
 use Rattle.reply_lines.specs.Steps.{toCR}
 
@@ -48,12 +47,12 @@ drop-take (suc k) (suc n) (c ∷ s) = let m : n - k ≡ suc n - suc k = omega ar
 
 start-short : (s : List ℕ) → length (trimStart s) ≤ length s
 start-short [] = omega arith
-start-short (c ∷ s) = by-test (isSpace c) (λ e. rw e (omega (arith, start-short s))) (λ e. rw e (omega arith))
+start-short (c ∷ s) = by-test (isTrimmed c) (λ e. rw e (omega (arith, start-short s))) (λ e. rw e (omega arith))
 
 start-part : (s : List ℕ) → trimStart s ≡ drop (length s - length (trimStart s)) s
 start-part [] = refl
 start-part (c ∷ s) =
-    by-test (isSpace c)
+    by-test (isTrimmed c)
     (λ e.
     let n : suc (length s) - length (trimStart s) ≡ suc (length s - length (trimStart s)) = omega (arith, start-short s) in
     rw e (rw n (start-part s)))

@@ -1,5 +1,5 @@
 -- Document 01, client_session.rs: "A reader walks the lines of one lent reply, holding the reply and its position." Where each line stands, and where the reader
--- stands after it; WalkLaws has that the texts of a walk from 0 are `textLines`, all and in order.
+-- stands after it; WalkLaws has that the texts of a walk from 0 are `textLines`, all and in order. Positions are those of the lent reply, its 00 counted.
 use mathlib.Core.Bool.{cond}
 use mathlib.Core.List.{List, [], _∷_}
 use mathlib.Core.Option.{Option, none, some}

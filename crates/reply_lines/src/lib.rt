@@ -7,10 +7,10 @@ ghost use Prim.Native.Nat.{suc, _+_, _-_, _≤_, min};
 ghost use lib.ListN.{length, take, drop, getD};
 ghost use Rattle.wire.specs.Put.{Put};
 ghost use Rattle.hex.specs.Read.{hexNumber, kept, pairBytes};
-ghost use Rattle.reply_lines.specs.Lines.{trimStart, trimEnd, stays, textLines, unspaced};
+ghost use Rattle.reply_lines.specs.Lines.{isTrimmed, trimStart, trimEnd, stays, textLines, characters};
 ghost use Rattle.reply_lines.specs.Decode.{textLine, DecodedAs};
 ghost use Rattle.reply_lines.specs.Reader.{textStep, lineFrom, pastStep, stepText};
-ghost use Rattle.reply_lines.specs.Steps.{toCR, CharAt, HeadOf};
+ghost use Rattle.reply_lines.specs.Steps.{toCR, isSkipped, CharAt, HeadOf};
 
 // The next line of a reply that counts.
 pub enum TextStep {
@@ -55,14 +55,24 @@ fn past_cr(reply: &[u8], cr: usize) -> usize
     cr
 }
 
-// The part without white space in front.
+// Whether a byte goes at the ends of a line: 00, which a reader skips, and white space. One test settles digits and letters.
+fn is_trimmed(b: u8) -> bool
+    ensures { λ r. ⌜ r ≡ isTrimmed b ⌝ }
+{
+    if 32 < b {
+        return false;
+    }
+    (b == 0) | wire::is_space(b)
+}
+
+// The part without 00 and white space in front.
 fn trim_start(s: &[u8]) -> &[u8]
     ensures { λ r. ⌜ now r ≡ trimStart (now (s .entry)) ⌝ }
 {
     let mut i: usize = 0;
     while i < s.len() {
         let b = s[i];
-        if !wire::is_space(b) {
+        if !is_trimmed(b) {
             return &s[i..];
         }
         i += 1;
@@ -70,14 +80,14 @@ fn trim_start(s: &[u8]) -> &[u8]
     &s[..0]
 }
 
-// The part without white space at its end.
+// The part without 00 and white space at its end.
 fn trim_end(s: &[u8]) -> &[u8]
     ensures { λ r. ⌜ now r ≡ trimEnd (now (s .entry)) ⌝ }
 {
     let mut end = s.len();
     while 0 < end {
         let b = s[end - 1];
-        if !wire::is_space(b) {
+        if !is_trimmed(b) {
             return &s[..end];
         }
         end -= 1;
@@ -190,7 +200,7 @@ impl<'a> LineReader<'a> {
         step
     }
 
-    // The text of a line that the reader gave: a part of the reply, not copied. Nothing for End.
+    // The text of a line that the reader gave: a part of the reply, not copied, with any 00 that stands inside it. Nothing for End.
     pub fn text(self, step: TextStep) -> &'a [u8]
         ensures { λ r. ⌜ now r ≡ stepText (now (self .entry .reply)) (textStep step) ⌝ }
     {
@@ -198,7 +208,7 @@ impl<'a> LineReader<'a> {
     }
 }
 
-// The text of a reply's first line, nothing where it has none.
+// The text of a reply's first line, a part of the reply with any 00 that stands inside it; nothing where it has none.
 pub fn first_text<'a>(reply: &'a [u8]) -> &'a [u8]
     ensures { λ r. ⌜ now r ≡ getD (textLines (now (reply .entry))) 0 [] ⌝ }
 {
@@ -207,21 +217,32 @@ pub fn first_text<'a>(reply: &'a [u8]) -> &'a [u8]
     reader.text(step)
 }
 
-// A line's first characters that are no spaces, at most five, and where the rest of it starts.
+// A line's first characters, at most five, and where the rest of it starts.
 struct Head {
     chars: [u8; 5],
     len: usize,
     next: usize,
 }
 
-// Where the next character that is no space stands, from position at on, or the end of the text.
+// Whether a byte inside a line is no character of it: 00 or 20. One test settles digits and letters.
+fn is_skipped(b: u8) -> bool
+    ensures { λ r. ⌜ r ≡ isSkipped b ⌝ }
+{
+    if 32 < b {
+        return false;
+    }
+    (b == 0) | (b == 32)
+}
+
+// Where the next character stands, from position at on, or the end of the text.
 fn next_char(text: &[u8], at: usize) -> usize
     requires { ⌜ at ≤ length (now text) ⌝ }
     ensures { λ r. ⌜ CharAt (now (text .entry)) at r ⌝ }
 {
     let mut i = at;
     while i < text.len() {
-        if text[i] != 32 {
+        let b = text[i];
+        if !is_skipped(b) {
             return i;
         }
         i += 1;
@@ -239,10 +260,10 @@ fn put_pair(out: &mut [u8], at: usize, a: u8, b: u8) -> usize
     wire::put_byte(out, at, byte as u8)
 }
 
-// The bytes of the pairs of a text from position at on, spaces skipped, stored at the front of out.
+// The bytes of the pairs of a text from position at on, 00 and 20 skipped, stored at the front of out.
 fn put_pairs(out: &mut [u8], text: &[u8], at: usize) -> usize
     requires { ⌜ at ≤ length (now text) ⌝ }
-    ensures { λ r. ⌜ Put (now (out .entry)) 0 (pairBytes (unspaced (drop at (now (text .entry))))) r (now (out .exit)) ⌝ }
+    ensures { λ r. ⌜ Put (now (out .entry)) 0 (pairBytes (characters (drop at (now (text .entry))))) r (now (out .exit)) ⌝ }
 {
     let mut len: usize = 0;
     let mut i = at;
@@ -294,7 +315,7 @@ fn ecu_of(a: u8, b: u8, c: u8) -> u16
     }
 }
 
-// The line of a text; its data are stored at the front of data.
+// The line of a text, of which 00 and 20 are skipped; its data are stored at the front of data, as far as it reaches.
 pub fn decode_line(text: &[u8], framing: bool, data: &mut [u8]) -> Decoded
     ensures { λ r. ⌜ DecodedAs (textLine framing (now (text .entry))) (now («data» .entry)) r (now («data» .exit)) ⌝ }
 {

@@ -1,5 +1,5 @@
 -- Laws of a reply read as a whole: what stands in the store, and what is answered.
-use mathlib.Core.Path.{_≡_, refl, sym, ap, _∙_}
+use mathlib.Core.Path.{_≡_, sym, ap, _∙_}
 use mathlib.Core.Bool.{Bool}
 use mathlib.Core.List.{List, [], _∷_, map}
 use Prim.Native.Nat.{ℕ, _+_, _*_, _≤_, _<_}
@@ -9,11 +9,13 @@ use lib.Seq.{sets, take-all, length-take-le}
 use borrow.Author.Tests.{lt-ltb, le-ltb}
 use Rattle.wire.specs.Answer.{result, refused, unless}
 use Rattle.wire.specs.Put.{Put}
+use Rattle.wire.specs.Text.{withoutNulls}
 use Rattle.wire.proofs.PutLaws.{put-length, put-whole, put-front}
 use Rattle.value.specs.Values.{Value, valuesBytes}
 use Rattle.reply_lines.specs.Lines.{textLines}
 use Rattle.reply_lines.specs.Decode.{textLine, replyLines}
 use Rattle.reply_lines.proofs.DecodeLaws.{line-ecu}
+use Rattle.reply_lines.proofs.NullLaws.{reply-without-nulls}
 use Rattle.reply_values.specs.Values.{valuesOf, answerOrder}
 use Rattle.server_state.specs.declared.FeatureSupport.{FeatureSupport}
 use Rattle.server_state.specs.declared.ServerState.{ServerState}
@@ -34,6 +36,10 @@ reply-known framing reply = known (textLines reply) where
   known : (ss : List (List ℕ)) → KnownEcus (map (textLine framing) ss)
   known [] = tt
   known (s ∷ ss) = (line-ecu framing s, known ss)
+
+-- Document 02 §2: "A 00 that the finish .. meets is skipped": a reply reads as it would without its 00
+pub reading-without-nulls : (s : ServerState) (pids : List ℕ) (several : Bool) (reply : List ℕ) → reading s pids several (withoutNulls reply) ≡ reading s pids several reply
+reading-without-nulls s pids several reply = rw (reply-without-nulls (s .framing) reply)
 
 -- the values of a text of at most 4,096 bytes, written into a store with three bytes for each of them and three more
 module _ (framing : Bool) (text lengths : List ℕ) (short : length text ≤ 4096) {store left : List ℕ} (room : 3 * length text + 3 ≤ length store) {size : ℕ}

@@ -18,9 +18,9 @@ use Rattle.group.specs.Group.{groupBytes}
 use Rattle.group.proofs.GroupLaws.{groupBytes-small, groupBytes-two}
 use Rattle.value.specs.Values.{Value, value, valueFormat, valuesBytes}
 use Rattle.value.proofs.ValueLaws.{value-length}
-use Rattle.reply_lines.specs.Lines.{onto, splitCR, trimmed, stays, textLines, unspaced}
+use Rattle.reply_lines.specs.Lines.{onto, splitCR, trimmed, stays, textLines, characters}
 use Rattle.reply_lines.specs.Decode.{textLine, replyLines}
-use Rattle.reply_lines.proofs.DecodeLaws.{unspaced-length, pairs-half, line-ecu}
+use Rattle.reply_lines.proofs.DecodeLaws.{characters-length, pairs-half, line-ecu}
 use Rattle.reply_lines.proofs.TurnLaws.{trimmed-fits}
 use Rattle.reply_values.specs.Values.{spanOf, walk, walked, lineValues, valuesOf}
 use Rattle.reply_values.proofs.WalkLaws.{span-within, bytes-append}
@@ -75,13 +75,13 @@ text-size : (lengths : List ℕ) (framing : Bool) (s : List ℕ) → length s �
     let l = textLine framing s in length (valuesBytes (lineValues lengths (l .ecu) (l .bytes))) ≤ 3 * suc (length s)
 unfolding textLine
 text-size lengths false s h =
-    let chars = unspaced s in
-    let few = unspaced-length s in
+    let chars = characters s in
+    let few = characters-length s in
     let half = pairs-half chars in
     omega (arith, line-size lengths 0 (pairBytes chars) 1 (omega arith) (rw (groupBytes-small 0 (omega arith)) (omega arith)))
 text-size lengths true s h =
-    let chars = unspaced s in
-    let few = unspaced-length s in
+    let chars = characters s in
+    let few = characters-length s in
     by-test (ltb (length chars) 5)
     (λ t.
     let short = ltb-true (length chars) 5 t in

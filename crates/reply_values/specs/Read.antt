@@ -36,8 +36,8 @@ pub record ReadServed : Type 0 where
   pub server : ServerState
   pub out : List ℕ
 
--- 8 for a reply over 4,096 bytes, and 6 where the values are longer than the buffer: nothing is learned or written. 8 comes first, since how long the values of such
--- a reply would be is not worked out; a finish reads at most 4,096
+-- 8 for a reply over 4,096 bytes, its 00 counted, and 6 where the values are longer than the buffer: nothing is learned or written. 8 comes first, since how long
+-- the values of such a reply would be is not worked out; a finish reads at most 4,096
 unfoldable pub readReply : ServerState → List ℕ → Bool → List ℕ → List ℕ → ReadServed
 readReply s pids several reply out =
     let r = reading s pids several reply in

@@ -9,14 +9,14 @@ use Rattle.reply_lines.proofs.DecodeLaws.{pairs-end, pairs-none, pairs-
 use Rattle.hex.specs.Read.{pairBytes}
 use Rattle.wire.proofs.PutLaws.{put-length}
 use Rattle.wire.specs.Put.{Put}
-use Rattle.reply_lines.specs.Lines.{unspaced}
+use Rattle.reply_lines.specs.Lines.{characters}
 use Rattle.reply_lines.proofs.put_pairs.Statement.{statement}
 use Rattle.reply_lines.proofs.put_pairs.Tie as tie
 
 abbrev Inv-loop : tie.InvT-loop
 Inv-loop out₀ text at len₀ i₀ out len i =
-    (i ≤ length text) × (length out ≡ length out₀) × Put out len (pairBytes (unspaced (drop i text))) (0 + min (length (pairBytes (unspaced (drop at text)))) (length out₀ - 0))
-    (sets out₀ 0 (pairBytes (unspaced (drop at text))))
+    (i ≤ length text) × (length out ≡ length out₀) × Put out len (pairBytes (characters (drop i text))) (0 + min (length (pairBytes (characters (drop at text)))) (length out₀ - 0))
+    (sets out₀ 0 (pairBytes (characters (drop at text))))
 
 abbrev μ-loop : tie.MeasureT-loop
 μ-loop out₀ text at len₀ i₀ out len i = length text - i

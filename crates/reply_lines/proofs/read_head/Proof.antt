@@ -5,16 +5,16 @@ use Prim.Native.Nat.{_-_, _≤_}
 use native.Mathlib.Omega.{arith}
 use lib.ListN.{length, take, drop, length-set}
 use borrow.Author.Needs.{needs}
-use Rattle.reply_lines.proofs.ScanLaws.{unspaced-end}
+use Rattle.reply_lines.proofs.ScanLaws.{characters-end}
 use Rattle.reply_lines.proofs.DecodeLaws.{head-step}
-use Rattle.reply_lines.specs.Lines.{unspaced}
+use Rattle.reply_lines.specs.Lines.{characters}
 use Rattle.reply_lines.proofs.read_head.Reads as reads
 use Rattle.reply_lines.proofs.read_head.Statement.{statement}
 use Rattle.reply_lines.proofs.read_head.Tie as tie
 
 abbrev Inv-loop : tie.InvT-loop
 Inv-loop text chars₀ len₀ next₀ chars len next =
-    (next ≤ length text) × (length chars ≡ 5) × (unspaced text ≡ take len chars ++ unspaced (drop next text))
+    (next ≤ length text) × (length chars ≡ 5) × (characters text ≡ take len chars ++ characters (drop next text))
 
 abbrev μ-loop : tie.MeasureT-loop
 μ-loop text chars₀ len₀ next₀ chars len next = 5 - len
@@ -32,7 +32,7 @@ returns c =
       whole = at-loop .loop .inv .2 ∙ ap (λ l. take (at-loop .loop .len) (at-loop .loop .chars) ++ l)
           (sym (c .before .next-char .ensures .reads));
       five = at-loop .loop .inv .1;
-      short = λ _. unspaced-end _ _ (c .if1 .taken);
+      short = λ _. characters-end _ _ (c .if1 .taken);
       inside = c .before .next-char .ensures .inside;
     }
 

@@ -26,18 +26,18 @@ sub-b c = search needs
 shared-slice-read-b : tie.Need-shared-slice-read-b Inv-loop μ-loop
 shared-slice-read-b c = search needs
 
-is-space-requires : tie.Need-is-space-requires Inv-loop μ-loop
-is-space-requires c κs = search needs
+is-trimmed-requires : tie.Need-is-trimmed-requires Inv-loop μ-loop
+is-trimmed-requires c κs = search needs
 
 slice-aggregate-result : tie.Need-slice-aggregate-result Inv-loop μ-loop
 slice-aggregate-result c = simp length-take (omega arith)
 
 returns : tie.Need-returns Inv-loop μ-loop
 returns c =
-    let at-is-space = c .before .before in
-    let at-loop-test = at-is-space .before .before in
+    let at-is-trimmed = c .before .before in
+    let at-loop-test = at-is-trimmed .before .before in
     let at-loop = at-loop-test .before in
-    sym (end-stop _ _ (at-loop-test .loop-test .taken) (at-loop .loop .inv .0) (sym (at-is-space .is-space .ensures) ∙ not-true _ (c .before .if1 .taken))) ∙ at-loop .loop .inv .1
+    sym (end-stop _ _ (at-loop-test .loop-test .taken) (at-loop .loop .inv .0) (sym (at-is-trimmed .is-trimmed .ensures) ∙ not-true _ (c .before .if1 .taken))) ∙ at-loop .loop .inv .1
 
 sub-end : tie.Need-sub-end Inv-loop μ-loop
 sub-end c = search needs
@@ -49,7 +49,7 @@ loop-again : tie.Need-loop-again Inv-loop μ-loop
 loop-again c =
     let at-loop-test = c .before .before .before in
     let at-loop = at-loop-test .before in
-    (search needs, sym (end-next _ _ (at-loop-test .loop-test .taken) (at-loop .loop .inv .0) (sym (c .before .is-space .ensures) ∙ not-false _ (c .if1 .left))) ∙ at-loop .loop .inv .1)
+    (search needs, sym (end-next _ _ (at-loop-test .loop-test .taken) (at-loop .loop .inv .0) (sym (c .before .is-trimmed .ensures) ∙ not-false _ (c .if1 .left))) ∙ at-loop .loop .inv .1)
 
 slice-aggregate-result-2 : tie.Need-slice-aggregate-result-2 Inv-loop μ-loop
 slice-aggregate-result-2 c = search needs
@@ -68,7 +68,7 @@ trim-end-spec =
     loop-holds
     sub-b
     shared-slice-read-b
-    is-space-requires
+    is-trimmed-requires
     slice-aggregate-result
     returns
     sub-end

@@ -22,8 +22,8 @@ loop-holds c = (omega arith, refl)
 shared-slice-read-b : tie.Need-shared-slice-read-b Inv-loop μ-loop
 shared-slice-read-b c = search needs
 
-is-space-requires : tie.Need-is-space-requires Inv-loop μ-loop
-is-space-requires c κs = search needs
+is-trimmed-requires : tie.Need-is-trimmed-requires Inv-loop μ-loop
+is-trimmed-requires c κs = search needs
 
 sub-result : tie.Need-sub-result Inv-loop μ-loop
 sub-result c = search needs
@@ -36,11 +36,11 @@ part-result-end c = search needs
 
 returns : tie.Need-returns Inv-loop μ-loop
 returns c =
-    let at-is-space = c .before .before in
-    let at-loop-test = at-is-space .before .before in
+    let at-is-trimmed = c .before .before in
+    let at-loop-test = at-is-trimmed .before .before in
     let at-loop = at-loop-test .before in
     let start = at-loop .before .before in
-    part-all (start .args .s .now) (at-loop .loop .i) ∙ sym (start-stop _ _ (at-loop-test .loop-test .taken) (sym (at-is-space .is-space .ensures) ∙ not-true _ (c .before .if1 .taken)))
+    part-all (start .args .s .now) (at-loop .loop .i) ∙ sym (start-stop _ _ (at-loop-test .loop-test .taken) (sym (at-is-trimmed .is-trimmed .ensures) ∙ not-true _ (c .before .if1 .taken)))
     ∙ at-loop .loop .inv .1
 
 add-i : tie.Need-add-i Inv-loop μ-loop
@@ -53,7 +53,7 @@ loop-again : tie.Need-loop-again Inv-loop μ-loop
 loop-again c =
     let at-loop-test = c .before .before .before in
     let at-loop = at-loop-test .before in
-    (search needs, sym (start-next _ _ (at-loop-test .loop-test .taken) (sym (c .before .is-space .ensures) ∙ not-false _ (c .if1 .left))) ∙ at-loop .loop .inv .1)
+    (search needs, sym (start-next _ _ (at-loop-test .loop-test .taken) (sym (c .before .is-trimmed .ensures) ∙ not-false _ (c .if1 .left))) ∙ at-loop .loop .inv .1)
 
 slice-aggregate-result : tie.Need-slice-aggregate-result Inv-loop μ-loop
 slice-aggregate-result c = search needs
@@ -69,7 +69,7 @@ trim-start-spec =
     μ-loop
     loop-holds
     shared-slice-read-b
-    is-space-requires
+    is-trimmed-requires
     sub-result
     part-result-start
     part-result-end
