@@ -15,7 +15,7 @@ use Rattle.wire.proofs.TextLaws.{has-append, high-append}
 use Rattle.hex.specs.Digits.{hexDigit}
 use Rattle.line_list.specs.Lines.{Line}
 use Rattle.reply.specs.Reply.{replyText}
-use Rattle.reply.proofs.ByteLaws.{replyBody, reply-prompt, body-none, body-prompt}
+use Rattle.reply.proofs.ByteLaws.{replyBody, reply-prompt, body-none, body-prompt, body-nulls}
 use Rattle.client_session.specs.declared.Command.{Command}
 use Rattle.client_session.specs.declared.Under.the-variants as under
 use Rattle.client_session.specs.Session.{Client, withUnder}
@@ -25,7 +25,7 @@ use Rattle.client_session.specs.Pieces.{awaits, Fed, fed}
 use Rattle.client_session.proofs.PieceLaws.{takes-too-much, piece-joined}
 use Rattle.client_session.proofs.StoreLaws.{store-holds, reply-in}
 use Rattle.client_session.proofs.PiecesLaws as inPieces
-use Rattle.client_session.proofs.PiecesLaws.{Sized, Awaiting, Plainly, prompted, piece-more, piece-stored, awaiting-more, all-of-it}
+use Rattle.client_session.proofs.PiecesLaws.{Sized, Awaiting, Plainly, prompted, piece-more, piece-stored, awaiting-more, all-of-it, piece-without-null}
 use Rattle.bench.specs.Deliver.{pieces}
 use Rattle.bench.specs.Steps.{delivered}
 use Rattle.bench.proofs.PiecesLaws.{pieces-sized, pieces-joined}
@@ -61,10 +61,13 @@ TooLong d = (d .answer ≡ refused 8) × (d .text ≡ [])
 
 -- a piece p of such a reply, of which the store holds st and the pieces ps are still to come
 module _ (room : ℕ) (k : Command) (c : Client) (store st p : List ℕ) (ps : List (List ℕ)) (body : List ℕ)
-    (w : Awaiting room k c store st) (prompt : has 62 body ≡ false) (low : high body ≡ false) (long : 4096 ≤ length body)
+    (w : Awaiting room k c store st) (prompt : has 62 body ≡ false) (low : high body ≡ false) (nulls : has 0 body ≡ false) (long : 4096 ≤ length body)
     (z : Sized (p ∷ ps)) (q : st ++ joined (p ∷ ps) ≡ prompted body) where
   rest : (st ++ p) ++ joined ps ≡ prompted body
   rest = append-assoc st p (joined ps) ∙ q
+
+  no-null : has 0 p ≡ false
+  no-null = piece-without-null st p (joined ps) body nulls rest
 
   abbrev step : ClientSaid → Fed
   step d = let s = storeAfter c (d .answer) p store in cond (awaits (d .answer)) (fed room (d .next) s ps) (record { said = d; store = s; left = ps })
@@ -73,7 +76,7 @@ module _ (room : ℕ) (k : Command) (c : Client) (store st p : List ℕ) (ps : L
   past : 4096 < length st + length p → TooLong (fed room c store (p ∷ ps) .said)
   past h =
       let e : pieceSays room c p store ≡ clientFailing c 8 =
-      piece-joined room c p store (w .turn) (w .reply) (w .out) (w .size) (z .1) ∙ takes-too-much k c p store (λ n. omega (arith, z .0)) (omega (arith, w .got)) in
+      piece-joined room c p store (w .turn) (w .reply) (w .out) (w .size) (z .0) (z .1) no-null ∙ takes-too-much k c p store (λ n. omega (arith, z .0)) (omega (arith, w .got)) in
       (ap (λ (d : ClientSaid). step d .said .answer) e, ap (λ (d : ClientSaid). step d .said .text) e)
 
   module _ (fits : length st + length p ≤ 4096) where
@@ -92,32 +95,32 @@ module _ (room : ℕ) (k : Command) (c : Client) (store st p : List ℕ) (ps : L
 
     within : fed room c store (p ∷ ps) .said ≡ fed room (withUnder c (under.Awaiting k) (length (st ++ p))) (sets store (c .got) p) ps .said
     within =
-        let d = piece-more room k c store st p w (z .0) (z .1) fits low-yet none-in in
-        let s = piece-stored room k c store st p w (z .0) (z .1) fits low-yet in
+        let d = piece-more room k c store st p w (z .0) (z .1) fits low-yet no-null none-in in
+        let s = piece-stored room k c store st p w (z .0) (z .1) fits low-yet no-null in
         λ i. cond (awaits (d i .answer)) (fed room (d i .next) (s i) ps) (record { said = d i; store = s i; left = ps }) .said
 
     later : Awaiting room k (withUnder c (under.Awaiting k) (length (st ++ p))) (sets store (c .got) p) (st ++ p)
-    later = awaiting-more room k c store st p w (z .0) (z .1) fits low-yet
+    later = awaiting-more room k c store st p w (z .0) (z .1) fits low-yet no-null
 
 fed-overflows : (room : ℕ) (k : Command) (c : Client) (store st : List ℕ) (ps : List (List ℕ)) (body : List ℕ) → Awaiting room k c store st →
-    has 62 body ≡ false → high body ≡ false → 4096 ≤ length body → length st ≤ 4096 → Sized ps → st ++ joined ps ≡ prompted body → TooLong (fed room c store ps .said)
-fed-overflows room k c store st [] body w prompt low long few z q = absurd (omega (arith, ap length q, length-append st [], length-append body (62 ∷ [])))
-fed-overflows room k c store st (p ∷ ps) body w prompt low long few z q =
+    has 62 body ≡ false → high body ≡ false → has 0 body ≡ false → 4096 ≤ length body → length st ≤ 4096 → Sized ps → st ++ joined ps ≡ prompted body → TooLong (fed room c store ps .said)
+fed-overflows room k c store st [] body w prompt low nulls long few z q = absurd (omega (arith, ap length q, length-append st [], length-append body (62 ∷ [])))
+fed-overflows room k c store st (p ∷ ps) body w prompt low nulls long few z q =
     by-test (ltb 4096 (length st + length p))
-    (λ t. past room k c store st p ps body w prompt low long z q (ltb-true 4096 (length st + length p) t))
+    (λ t. past room k c store st p ps body w prompt low nulls long z q (ltb-true 4096 (length st + length p) t))
     (λ t.
     let fits = ltb-false 4096 (length st + length p) t in
-    subst TooLong (sym (within room k c store st p ps body w prompt low long z q fits))
-    (fed-overflows room k _ _ (st ++ p) ps body (later room k c store st p ps body w prompt low long z q fits) prompt low long
-    (omega (arith, length-append st p)) (z .2) (rest room k c store st p ps body w prompt low long z q)))
+    subst TooLong (sym (within room k c store st p ps body w prompt low nulls long z q fits))
+    (fed-overflows room k _ _ (st ++ p) ps body (later room k c store st p ps body w prompt low nulls long z q fits) prompt low nulls long
+    (omega (arith, length-append st p)) (z .2) (rest room k c store st p ps body w prompt low nulls long z q)))
 
 -- a reply of more than 4,096 bytes gets 8
-pub overflows : (k : Command) (c : Client) (store ks body : List ℕ) → Awaiting sendRoom k c store [] → has 62 body ≡ false → high body ≡ false → 4096 ≤ length body →
+pub overflows : (k : Command) (c : Client) (store ks body : List ℕ) → Awaiting sendRoom k c store [] → has 62 body ≡ false → high body ≡ false → has 0 body ≡ false → 4096 ≤ length body →
     TooLong (delivered sendRoom c store ks (prompted body) .said)
 unfolding delivered
-overflows k c store ks body w prompt low long =
+overflows k c store ks body w prompt low nulls long =
     let r = prompted body in
-    fed-overflows sendRoom k c store [] (pieces ks r) body w prompt low long (omega arith) (pieces-sized ks r) (pieces-joined ks r)
+    fed-overflows sendRoom k c store [] (pieces ks r) body w prompt low nulls long (omega arith) (pieces-sized ks r) (pieces-joined ks r)
 
 -- ---- what the server replies with
 
@@ -130,7 +133,7 @@ body-length : (ls : List Line) → length (replyText false false true ls) ≡ le
 body-length ls = ap length (reply-prompt false false true ls) ∙ length-append (replyBody false false true ls) (62 ∷ [])
 
 pub plainly : (ls : List Line) → length (replyText false false true ls) ≤ 4096 → Plainly (replyBody false false true ls)
-plainly ls h = record { prompt = body-prompt false false true ls; low = body-low ls; short = omega (arith, body-length ls) }
+plainly ls h = record { prompt = body-prompt false false true ls; low = body-low ls; nulls = body-nulls false false true ls; short = omega (arith, body-length ls) }
 
 -- no `?` stands in it
 pub no-question : (ls : List Line) → has 63 (replyText false false true ls) ≡ false
@@ -140,11 +143,11 @@ no-question ls = ap (has 63) (reply-prompt false false true ls) ∙ has-append 6
 -- one stands in the reply `?`, which is `?`, CR, CR and the prompt
 pub question-plainly : Plainly (ascii "?\r\r")
 unfolding has high
-question-plainly = record { prompt = refl; low = refl; short = omega arith }
+question-plainly = record { prompt = refl; low = refl; nulls = refl; short = omega arith }
 
 -- and a reply to lines, or to none, gets 8 when it has more than 4,096 bytes
 module _ (k : Command) (c : Client) (store ks : List ℕ) (w : Awaiting sendRoom k c store []) (ls : List Line) where
   pub reply-overflows : 4096 < length (replyText false false true ls) → TooLong (delivered sendRoom c store ks (replyText false false true ls) .said)
   reply-overflows h =
       rw (reply-prompt false false true ls)
-      (overflows k c store ks (replyBody false false true ls) w (body-prompt false false true ls) (body-low ls) (omega (arith, body-length ls)))
+      (overflows k c store ks (replyBody false false true ls) w (body-prompt false false true ls) (body-low ls) (body-nulls false false true ls) (omega (arith, body-length ls)))

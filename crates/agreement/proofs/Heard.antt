@@ -1,6 +1,6 @@
 -- What the server makes of the commands of a bench run: the initialisation, a query's text, and a bare CR.
 use mathlib.Core.Path.{_≡_, refl, ap, _∙_}
-use mathlib.Core.Bool.{Bool, true, false}
+use mathlib.Core.Bool.{Bool, true, false, not}
 use mathlib.Core.List.{List, [], _∷_, _++_}
 use Prim.Native.Nat.{ℕ, _+_, _-_, _*_, _≤_, _<_}
 use native.Mathlib.Omega.{arith}
@@ -20,7 +20,7 @@ use Rattle.reply.specs.Shape.{chipReply}
 use Rattle.reply.specs.Reply.{replyText}
 use Rattle.reply.proofs.SizeLaws.{line-length, linesSize, some-length, none-length}
 use Rattle.reply_lines.specs.Lines.{unspaced}
-use Rattle.reply_lines.proofs.DecodeLaws.{unspaced-length}
+use Rattle.wire.proofs.PassingLaws.{passing-length}
 use Rattle.query.specs.Query.{queryText}
 use Rattle.query.proofs.QueryLaws.{query-within, query-short}
 use Rattle.server_session.specs.declared.Phase.the-variants.{Reading, ObdCommand}
@@ -151,7 +151,7 @@ module _ (pids : List ℕ) (count : ℕ) where
 
   module _ (few : length pids ≤ 6) where
     pub unspaced-short : length (unspaced (queryText pids count)) ≤ 128
-    unspaced-short = omega (arith, unspaced-length (queryText pids count), query-short pids count few)
+    unspaced-short = omega (arith, passing-length (λ c. not (eqb c 32)) (queryText pids count), query-short pids count few)
 
     module _ (c : count ≤ 256) where
       query-says : (last : List ℕ) →

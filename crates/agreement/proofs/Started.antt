@@ -104,11 +104,11 @@ module _ (n : ℕ) (repeat : Bool) (k : ℕ) (command store : List ℕ) (s : Ses
 
 ok-plainly : Plainly (ascii "OK\r\r")
 unfolding has high
-ok-plainly = record { prompt = refl; low = refl; short = omega arith }
+ok-plainly = record { prompt = refl; low = refl; nulls = refl; short = omega arith }
 
 echo-plainly : Plainly (ascii "ATE0\rOK\r\n\r\n")
 unfolding has high
-echo-plainly = record { prompt = refl; low = refl; short = omega arith }
+echo-plainly = record { prompt = refl; low = refl; nulls = refl; short = omega arith }
 
 store-size : (store r : List ℕ) → 4096 ≤ length store → 4096 ≤ length (sets store 0 r)
 store-size store r h = omega (arith, length-sets store 0 r)

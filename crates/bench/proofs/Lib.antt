@@ -6,6 +6,7 @@ pub mod CheckLaws
 pub mod Worked
 pub mod PiecesLaws
 pub mod ExchangeLaws
+pub mod NullLaws
 pub mod DeliverLaws
 mod RoundLaws
 mod OnwardLaws

@@ -7,7 +7,7 @@ use lib.ListN.{length}
 use lib.Dec.{T, eqb, leb}
 use Rattle.wire.specs.Text.{ascii, any, has, high}
 use Rattle.wire.proofs.Cases.{by-test, from-no, unless, below, at-below}
-use Rattle.wire.proofs.TextLaws.{any-append, any-none}
+use Rattle.wire.proofs.TextLaws.{any-append, any-none, has-append}
 use Rattle.client_state.specs.Settings.{lineEnding}
 use Rattle.hex.specs.Digits.{hexDigit, hexDigits, hexByte}
 use Rattle.wire.proofs.All.{All, all-append}
@@ -107,6 +107,18 @@ module _ (f : ℕ → Bool) where
 pub body-prompt : (linefeeds spaces headers : Bool) (ls : List Line) → has 62 (replyBody linefeeds spaces headers ls) ≡ false
 unfolding has hexDigit
 body-prompt linefeeds spaces headers ls = body-none (λ c. eqb c 62) tt refl linefeeds spaces headers ls
+
+-- no 00, so that a client discards nothing of it (document 02 §2)
+pub body-nulls : (linefeeds spaces headers : Bool) (ls : List Line) → has 0 (replyBody linefeeds spaces headers ls) ≡ false
+unfolding has hexDigit
+body-nulls linefeeds spaces headers ls = body-none (λ c. eqb c 0) tt refl linefeeds spaces headers ls
+
+pub reply-nulls : (linefeeds spaces headers : Bool) (ls : List Line) → has 0 (replyText linefeeds spaces headers ls) ≡ false
+unfolding has
+reply-nulls linefeeds spaces headers ls =
+    ap (has 0) (reply-prompt linefeeds spaces headers ls)
+    ∙ has-append 0 (replyBody linefeeds spaces headers ls) (62 ∷ [])
+    ∙ rw (body-nulls linefeeds spaces headers ls)
 
 -- no byte of 80 or more
 pub reply-low : (linefeeds spaces headers : Bool) (ls : List Line) → high (replyText linefeeds spaces headers ls) ≡ false
