@@ -1,5 +1,5 @@
 //! Cases whose logs are written by hand: document 01's numbers, at their limits from both sides, with what each leaves in the session, and document 02's order of
-//! PIDs. No log here is taken from the Rust's answers or from this library's. The state is shown before the first call and after each.
+//! PIDs and its 00 bytes. No log here is taken from the Rust's answers or from this library's. The state is shown before the first call and after each.
 use crate::driver::{client, server, Script};
 use crate::every::WORKED;
 use crate::plan::{put_call, put_number, put_text};
@@ -242,6 +242,17 @@ impl Session<Client> {
         for piece in vec![b'\r'; size].chunks(128) {
             self = self.piece(piece);
         }
+        self
+    }
+
+    /// So many 00 and nothing else: the reply is awaited as before.
+    fn nulls(self, size: usize) -> Self {
+        self.piece(&vec![0; size])
+    }
+
+    /// The host writes to the front of its store.
+    fn host_writes(mut self, bytes: &[u8]) -> Self {
+        self.script.look(client::WRITE, bytes);
         self
     }
 
@@ -612,7 +623,17 @@ fn high_reply() -> Vec<Written> {
         .init()
         .reset(client::PIECE, b"\x80\xFF>")
         .failed(client::PIECE, b"OK\xFF\r\r>", 9);
-    vec![query.case("a query"), pids.case("query_pids, support untested"), raw.case("a raw command and the initialisation")]
+    // The byte stands in the store alone: found when the next piece arrives, and at the finish.
+    let stored = fresh(false, true).query().replied().repeat().piece(b"4").host_writes(b"\x80").failed(client::PIECE, b"1", 9);
+    let reply = |session: Session<Client>| session.call(client::PIECE, REPLY, complete(), |c| (c.under, c.last) = (COMPLETE, b"010C0D"));
+    let finish = reply(fresh(false, true).start(client::QUERY_PIDS, &[0x0C, 0x0D], b"010C0D\r", QUERY)).host_writes(b"\x80").failed_untested(client::FINISH, &[], 9);
+    vec![
+        query.case("a query"),
+        pids.case("query_pids, support untested"),
+        raw.case("a raw command and the initialisation"),
+        stored.case("in the store, at a piece"),
+        finish.case("in the store, at a finish"),
+    ]
 }
 
 fn line_full() -> Vec<Written> {
@@ -744,6 +765,123 @@ fn rising_run() -> Written {
     Written { name: "a bench run", kind: RUN + 1, room: record.len(), script: Script { bytes: script, calls: 0 }, log }
 }
 
+/// Document 02 §2: "The client now discards 00 first: it reaches neither the store nor the 4,096, though a piece's 128 still counts it. A piece of one or more 00 and
+/// nothing else counts as not arrived, once 1, 3 and 6 have been looked for, and leaves session and buffers untouched, also while the ATZ answer is awaited; an empty
+/// piece stays what it was in 01. A 00 that the finish or the line reader meets is skipped."
+fn nulls() -> Vec<Written> {
+    let kmh = |session: Session<Client>| session.start(client::QUERY_PID, &[0x0D], b"010D\r", QUERY);
+    let speed = |session: Session<Client>, piece: &[u8]| {
+        session.call(client::PIECE, piece, complete(), |c| (c.under, c.last) = (COMPLETE, b"010D"))
+    };
+    let given = |session: Session<Client>, value: &[u8]| session.call(client::FINISH, &[], values(1, value), |c| c.under = NOTHING);
+    let piece = [0x37, 0x00, 0x45, 0x38, 0x30, 0x33, 0x00, 0x20, 0x34, 0x31, 0x30, 0x44, 0x32, 0x00, 0x30, 0x0D, 0x00, 0x0D, 0x3E];
+    let query = kmh(fresh(false, false).framed()).nulls(1).so_far(b"");
+    let query = given(speed(query, &piece).so_far(b"7E803 410D20\r\r>"), &[0x0D, 0xE9, 0x0F, 0x03, 0x41, 0x0D, 0x20]);
+    // 129 bytes are 3, with a prompt or without; 128 are not.
+    let prompt = |size: usize| [vec![0; size], b">".to_vec()].concat();
+    let sizes = kmh(fresh(false, true))
+        .refused(client::PIECE, &[0; 129], 3)
+        .nulls(128)
+        .refused(client::PIECE, &prompt(128), 3)
+        .so_far(b"");
+    let sizes = speed(sizes, &prompt(127)).so_far(b">").call(client::FINISH, &[], values(0, b""), |c| c.under = NOTHING);
+    // Byte 4,096 with 127 of 00; then 00 alone is no 8, and another byte is.
+    let full = fresh(false, true)
+        .start(client::QUERY_PIDS, &[0x0C, 0x0D], b"010C0D\r", QUERY)
+        .pieces(4095)
+        .nulls(1)
+        .piece(&[&[0; 127], &b"\r"[..]].concat())
+        .nulls(2)
+        .refused(client::PIECE, &[0; 129], 3)
+        .nulls(128)
+        .failed_untested(client::PIECE, b"\0\r", 8);
+    // While the ATZ answer is awaited. The last query is still there after 00 alone, and after the failed write too.
+    let reset = fresh(false, true)
+        .query()
+        .replied()
+        .init()
+        .nulls(1)
+        .nulls(256)
+        .refused(client::PIECE, &[0; 257], 3)
+        .call(client::FAILED_WRITE, &[], number(7), |c| c.under = NOTHING)
+        .repeat()
+        .call(client::PIECE, REPLY, complete(), |c| (c.under, c.repeat) = (COMPLETE, YES))
+        .call(client::FINISH, &[], values(1, VALUE), |c| c.under = NOTHING)
+        .init()
+        .nulls(2)
+        .reset(client::PIECE, b"\0x")
+        .nulls(128)
+        .refused(client::PIECE, &[0; 129], 3)
+        .call(client::PIECE, b"O\0K\r\r>\0", next(b"ATL0\r"), |_| {})
+        .nulls(1)
+        .failed(client::PIECE, &[], 7);
+    let empty = fresh(true, true).init().nulls(256).reset(client::PIECE, &[]);
+    let failed_read = fresh(true, true).init().nulls(1).reset(client::FAILED_READ, &[]);
+    // Nothing is awaited: 1, of any size.
+    let no_nulls = |session: Session<Client>| session.refused(client::PIECE, b"\0", 1).refused(client::PIECE, &[0; 129], 1).refused(client::PIECE, &[0; 257], 1);
+    let idle = no_nulls(speed(kmh(no_nulls(fresh(false, false))), b"410D20\r>"));
+    let idle = no_nulls(given(idle, &[0x0D, 0x00, 0x03, 0x41, 0x0D, 0x20]));
+    // In a repeat, and in the query that follows it in full; then 7 and 9, which 00 beside them does not change.
+    let repeat = fresh(false, true)
+        .query()
+        .replied()
+        .repeat()
+        .nulls(3)
+        .piece(b"\0?")
+        .nulls(1)
+        .call(client::PIECE, b"\0\r\0>", next(b"010C\r"), |c| (c.under, c.repeat) = (QUERY, NO))
+        .nulls(1)
+        .piece(b"4\0")
+        .so_far(b"4")
+        .call(client::PIECE, b"\x001 0C 1A\0 F8\r\r>", complete(), |c| c.under = COMPLETE)
+        .so_far(REPLY)
+        .call(client::FINISH, &[], values(1, VALUE), |c| c.under = NOTHING)
+        .query()
+        .nulls(1)
+        .failed(client::PIECE, &[], 7)
+        .query()
+        .nulls(1)
+        .failed(client::PIECE, b"\0\x80", 9);
+    let raw = fresh(false, true)
+        .raw(b"ATH1")
+        .nulls(1)
+        .piece(b"\0O\0")
+        .nulls(128)
+        .call(client::PIECE, b"K\0\r\r>\0", over(), |c| (c.under, c.framing) = (NOTHING, true))
+        .so_far(b"OK\r\r>")
+        .raw(b"ATI")
+        .nulls(1)
+        .failed(client::PIECE, &[], 7);
+    // What the host wrote to the store is not looked at with 00 alone, and is with the next byte.
+    let high = fresh(false, true).query().piece(b"4").host_writes(b"\x80").nulls(1).failed(client::PIECE, b"\x00A", 9);
+    let stored_prompt = kmh(fresh(false, true)).piece(b"4").host_writes(b">").nulls(128);
+    let stored_prompt = speed(stored_prompt, b"\0\r").so_far(b">\r").call(client::FINISH, &[], values(0, b""), |c| c.under = NOTHING);
+    // A finish over 00 that the host wrote: card 4's line, and pairs that close up.
+    let card_4 = speed(kmh(fresh(false, false).framed()), b"xxxxxxx>").host_writes(&[0x00, 0x41, 0x31, 0x32, 0x00, 0x00, 0x0D, 0x3E]);
+    let card_4 = given(card_4, &[0x31, 0x00, 0x03, 0x41, 0x31, 0x32]);
+    let pairs = speed(kmh(fresh(false, false)), b"xxxxxxxxxxx>").host_writes(&[0x34, 0x00, 0x31, 0x20, 0x30, 0x44, 0x20, 0x32, 0x00, 0x30, 0x0D, 0x3E]);
+    let pairs = given(pairs, &[0x0D, 0x00, 0x03, 0x41, 0x0D, 0x20]);
+    // At both ends of a line 00 goes with white space, in any mixture; a line of both alone is none.
+    let ends = speed(kmh(fresh(false, false)), b"xxxxxxxxxxxxxxxxx>").host_writes(b"\0\r\t\0\x0B410D20\0\n \0\r\0>");
+    let ends = given(ends, &[0x0D, 0x00, 0x03, 0x41, 0x0D, 0x20]);
+    vec![
+        query.case("a query of 0D"),
+        sizes.case("129 bytes, and 128"),
+        full.case("4,096 bytes, and 00 beside them"),
+        reset.case("the ATZ answer"),
+        empty.case("an empty piece for the ATZ answer"),
+        failed_read.case("a failed read for the ATZ answer"),
+        idle.case("nothing awaited"),
+        repeat.case("a repeat"),
+        raw.case("a raw command"),
+        high.case("a byte of 80 in the store"),
+        stored_prompt.case("a prompt in the store"),
+        card_4.case("a finish over card 4's line"),
+        pairs.case("a finish over pairs"),
+        ends.case("a finish over the ends of lines"),
+    ]
+}
+
 /// The cases, under their headings.
 pub fn by_hand() -> Vec<(&'static str, Vec<Written>)> {
     vec![
@@ -761,5 +899,6 @@ pub fn by_hand() -> Vec<(&'static str, Vec<Written>)> {
         ("by hand, a reader's byte of 80 or more (11)", high_byte()),
         ("by hand, the first that applies", order()),
         ("by hand, PIDs in rising order", rising()),
+        ("by hand, 00 bytes", nulls()),
     ]
 }

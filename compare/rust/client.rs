@@ -1,11 +1,12 @@
 //! Client sessions: the Rust's side of a case.
-use crate::driver::{client as kind, Driver, Log, Script};
+use crate::driver::{client as kind, empty_store, Driver, Log, Script};
 use crate::plan::{shown, Expected, Plan, Values};
 use crate::shrink::{shorter, Case};
-use crate::stream::{Arrival, Empty, Event, Stream};
+use crate::stream::{without_nulls, Arrival, End, Event, Stream};
 use std::collections::HashMap;
 use std::fmt::Write;
 use std::io;
+use std::iter::repeat_n;
 use std::time::Duration;
 use tachtalk_elm327_lib::{ClientConfig, ClientSession, FeatureSupport, ReplyLine, MODE01_PID_DATA_LENGTHS};
 
@@ -21,8 +22,11 @@ pub enum Start {
 #[derive(Clone)]
 pub struct Call {
     pub start: Start,
+    /// The Rust gets the pieces without their 00.
     pub arrivals: Vec<Arrival>,
     pub failed_write: Option<usize>,
+    /// In a query: the Rattle session is handed another byte for each 00, and the host writes the reply with its 00 to the store before the finish.
+    pub host_writes: bool,
 }
 
 #[derive(Clone)]
@@ -109,7 +113,7 @@ fn seen(plan: &mut Plan, start: &Start, outcome: &Outcome, events: &[Event], bef
     });
     let queried = matches!(start, Start::Pid(..) | Start::Pids(..));
     if queried && events.first() == Some(&Event::Wrote(b"\r".to_vec())) {
-        let writes = events.iter().filter(|event| !matches!(event, Event::Read(_))).count();
+        let writes = events.iter().filter(|event| !matches!(event, Event::Read(_) | Event::Nulls(_))).count();
         plan.seen.push(if writes == 1 { "repeats" } else { "repeats refused" });
     }
     let Expected::Client { framing, multi, known, .. } = before else { return };
@@ -146,21 +150,51 @@ pub fn started(script: &mut Script, start: &Start) {
 fn answer(next: Option<&Event>, sent: u8, end: u8) -> Expected {
     let (code, sent) = match next {
         Some(Event::Wrote(bytes) | Event::WriteFailed(bytes)) => (sent, bytes.clone()),
-        Some(Event::Read(_)) => (64, Vec::new()),
+        Some(Event::Read(_) | Event::Nulls(_)) => (64, Vec::new()),
         None => (end, Vec::new()),
     };
     Expected::Calls { calls: 1, code, count: 0, sent }
 }
 
+/// A piece of 00 alone, of which the Rust knows nothing: this code, and nothing changes. Around it the session and the reply so far are shown if they are to be.
+fn nulls_alone(plan: &mut Plan, n: usize, bytes: &[u8], code: u8, around: bool) {
+    let show = |plan: &mut Plan| {
+        plan.script.look(kind::STATE, &[]);
+        plan.script.look(kind::REPLY, &[]);
+    };
+    let mut expected = Expected::Calls { calls: 1, code, count: 0, sent: Vec::new() };
+    if around {
+        expected = Expected::Untouched { code };
+        show(plan);
+    }
+    plan.script.call(kind::PIECE, bytes);
+    if around {
+        show(plan);
+    }
+    plan.expected.push((n, expected));
+}
+
+/// A text with another byte in the place of each 00.
+fn without_gaps(bytes: &[u8]) -> Vec<u8> {
+    bytes.iter().map(|byte| if *byte == 0 { b'x' } else { *byte }).collect()
+}
+
+/// Bytes are stored from a place on, which is then past them.
+fn append(store: &mut [u8], at: &mut usize, bytes: &[u8]) {
+    store[*at..*at + bytes.len()].copy_from_slice(bytes);
+    *at += bytes.len();
+}
+
 impl ClientCase {
-    /// A plan that shows what is known of these PIDs.
-    pub fn plan_of(&self, pids: &[u8]) -> Plan {
-        let mut plan = Plan::default();
-        let stream = Stream::new(Empty::Closed);
+    /// A plan that shows what is known of these PIDs, and, if told so, the session before and after each piece of 00 alone.
+    pub fn plan_of(&self, pids: &[u8], around: bool) -> Plan {
+        let mut plan = Plan { store: empty_store(), ..Plan::default() };
+        let stream = Stream::new(End::Client);
         let mut session = ClientSession::new(stream.clone(), config(self.framing, self.repeat));
         let mut text = String::new();
         let mut before = state(&session, pids, &mut text);
-        for (n, Call { start, arrivals, failed_write }) in self.calls.iter().enumerate() {
+        for (n, Call { start, arrivals, failed_write, host_writes }) in self.calls.iter().enumerate() {
+            let host_writes = *host_writes && matches!(start, Start::Pid(..) | Start::Pids(..));
             stream.load(arrivals, *failed_write);
             let outcome = call(&mut session, start);
             let events = stream.events();
@@ -174,15 +208,47 @@ impl ClientCase {
             before = after.clone();
             started(&mut plan.script, start);
             plan.expected.push((n, answer(events.first(), 64, end)));
+            // Since the last write: what arrived, and how many bytes of it the store has.
+            let mut arrived = Vec::new();
+            let mut got = 0;
+            let mut writes = 0;
             for (i, event) in events.iter().enumerate() {
                 match event {
-                    Event::Wrote(_) => continue,
+                    Event::Wrote(_) => {
+                        arrived.clear();
+                        got = 0;
+                        writes += 1;
+                        continue;
+                    }
                     Event::WriteFailed(_) => plan.script.call(kind::FAILED_WRITE, &[]),
-                    Event::Read(Arrival::Piece(bytes)) => plan.script.call(kind::PIECE, bytes),
+                    Event::Read(Arrival::Piece(bytes)) | Event::Nulls(bytes) if host_writes => {
+                        arrived.extend_from_slice(bytes);
+                        let handed = without_gaps(bytes);
+                        append(&mut plan.store, &mut got, &handed);
+                        plan.script.call(kind::PIECE, &handed);
+                    }
+                    Event::Read(Arrival::Piece(bytes)) => {
+                        let kept = without_nulls(bytes);
+                        plan.seen.extend(repeat_n("bytes of 00 in other pieces", bytes.len() - kept.len()));
+                        // The answer to ATZ is not stored.
+                        if *start != Start::Init || writes != 1 {
+                            append(&mut plan.store, &mut got, &kept);
+                        }
+                        plan.script.call(kind::PIECE, bytes);
+                    }
+                    Event::Nulls(bytes) => {
+                        plan.seen.push("pieces of 00 alone");
+                        nulls_alone(&mut plan, n, bytes, 64, around);
+                        continue;
+                    }
                     Event::Read(Arrival::Failed) => plan.script.call(kind::FAILED_READ, &[]),
                     Event::Read(Arrival::Closed) => plan.script.call(kind::PIECE, &[]),
                 }
                 plan.expected.push((n, answer(events.get(i + 1), 65, end)));
+            }
+            for bytes in stream.nulls_left() {
+                plan.seen.push("pieces of 00 alone out of turn");
+                nulls_alone(&mut plan, n, &bytes, 1, around);
             }
             match outcome {
                 Outcome::Failed | Outcome::Initialised => {}
@@ -191,12 +257,21 @@ impl ClientCase {
                     plan.expected.push((n, Expected::Reply(reply)));
                 }
                 Outcome::Values(values) => {
+                    if host_writes {
+                        plan.seen.extend(repeat_n("bytes of 00 in the store", arrived.len() - without_nulls(&arrived).len()));
+                        append(&mut plan.store, &mut 0, &arrived);
+                        plan.script.look(kind::WRITE, &arrived);
+                    }
                     plan.script.call(kind::FINISH, &[]);
                     plan.expected.push((n, Expected::Values { values, framed: session.server_state().framing() }));
                 }
             }
             plan.script.look(kind::STATE, pids);
             plan.expected.push((n, after));
+        }
+        let has_null = |arrival: &Arrival| matches!(arrival, Arrival::Piece(bytes) if bytes.contains(&0));
+        if self.calls.iter().any(|call| call.arrivals.iter().any(has_null)) {
+            plan.seen.push("sessions with 00");
         }
         plan
     }
@@ -212,7 +287,7 @@ impl ClientCase {
                 Start::Init | Start::Command(_) => {}
             }
         }
-        for (_, expected) in &self.plan_of(&all).expected {
+        for (_, expected) in &self.plan_of(&all, false).expected {
             if let Expected::Client { known, .. } = expected {
                 for (pid, (length, count)) in known {
                     let table = MODE01_PID_DATA_LENGTHS[usize::from(*pid)].map_or(256, usize::from);
@@ -226,10 +301,11 @@ impl ClientCase {
 
 impl Case for ClientCase {
     fn plan(&self) -> Plan {
-        self.plan_of(&(0..=255).collect::<Vec<u8>>())
+        self.plan_of(&(0..=255).collect::<Vec<u8>>(), true)
     }
 
     fn run<'a>(&self, driver: &'a mut Driver, plan: &Plan) -> Log<'a> {
+        driver.clear_store();
         driver.client(self.framing, self.repeat, &plan.script, 0, &Script::default())
     }
 
@@ -246,6 +322,9 @@ impl Case for ClientCase {
             };
             if call.failed_write.is_some() {
                 with(Call { failed_write: None, ..call.clone() });
+            }
+            if call.host_writes {
+                with(Call { host_writes: false, ..call.clone() });
             }
             for arrivals in shorter(&call.arrivals) {
                 with(Call { arrivals, ..call.clone() });
@@ -295,6 +374,9 @@ impl Case for ClientCase {
             write!(text, "\n  {n}: {start}").expect("a string takes all");
             if let Some(k) = call.failed_write {
                 write!(text, ", write {k} fails").expect("a string takes all");
+            }
+            if call.host_writes {
+                text += ", the host writes the reply to the store";
             }
             for arrival in &call.arrivals {
                 match arrival {

@@ -68,6 +68,8 @@ pub mod client {
     pub const FAILED_READ: u8 = 8;
     pub const FAILED_WRITE: u8 = 9;
     pub const REPLY: u8 = 10;
+    /// The host writes the argument to the front of the store; the log has no entry of it.
+    pub const WRITE: u8 = 11;
 }
 
 /// A script of calls. Entries that only look at a session are no calls, and are not counted.
@@ -107,6 +109,8 @@ pub struct Answer<'a> {
 #[derive(Clone)]
 pub struct Log<'a> {
     left: &'a [u8],
+    /// The store of a client session's replies.
+    pub store: &'a [u8],
 }
 
 impl<'a> Log<'a> {
@@ -143,6 +147,11 @@ impl<'a> Log<'a> {
     }
 }
 
+/// A store that holds no reply.
+pub fn empty_store() -> Vec<u8> {
+    vec![0xEE; 4096]
+}
+
 /// The buffers that are lent to the sessions. They keep what they held from one session to the next.
 pub struct Driver {
     store: Vec<u8>,
@@ -152,7 +161,12 @@ pub struct Driver {
 
 impl Driver {
     pub fn new() -> Self {
-        Driver { store: vec![0xEE; 4096], out: vec![0xEE; 65_536], log: vec![0xEE; 16 << 20] }
+        Driver { store: empty_store(), out: vec![0xEE; 65_536], log: vec![0xEE; 16 << 20] }
+    }
+
+    /// The store as it is at first.
+    pub fn clear_store(&mut self) {
+        self.store = empty_store();
     }
 
     /// One whose log takes nothing.
@@ -177,7 +191,7 @@ impl Driver {
                 self.log.len(),
             )
         };
-        Log { left: &self.log[..end] }
+        Log { left: &self.log[..end], store: &[] }
     }
 
     /// The same on a client session.
@@ -201,7 +215,7 @@ impl Driver {
                 self.log.len(),
             )
         };
-        Log { left: &self.log[..end] }
+        Log { left: &self.log[..end], store: &self.store }
     }
 
     /// A bench run whose record goes to the first bytes of a buffer: where its log ends. Nothing is looked at.
@@ -227,7 +241,7 @@ impl Driver {
     pub fn bench(&mut self, repeat: bool, script: &[u8], pieces: &[u8], room: usize) -> Log<'_> {
         self.out[..room].fill(0xEE);
         let end = self.bench_in(repeat, script, pieces, room);
-        let log = Log { left: &self.log[..end] };
+        let log = Log { left: &self.log[..end], store: &[] };
         let stands = log.clone().answer().sent;
         let buffer = &self.out[..room];
         assert!(buffer.starts_with(stands) && buffer[stands.len()..].iter().all(|byte| *byte == 0xEE), "past its parts the record keeps what it held");

@@ -20,7 +20,7 @@ pub fn split(text: &[u8], size: usize) -> Vec<Arrival> {
 }
 
 pub fn call(start: Start, arrivals: Vec<Arrival>) -> Call {
-    Call { start, arrivals, failed_write: None }
+    Call { start, arrivals, failed_write: None, host_writes: false }
 }
 
 pub fn asked(start: Start, reply: &[u8]) -> Call {
@@ -213,6 +213,128 @@ pub fn failures(to: &mut impl Take) {
     }
 }
 
+/// Calls whose replies come in several pieces: an initialisation, a raw command, a query, and one that is refused as a repeat.
+fn in_pieces() -> Vec<Call> {
+    let reply = || split(b"7E806410C1AF80D20\r\r>", 8);
+    let query = Start::Pids(vec![0x0C, 0x0D], Some(1));
+    vec![
+        call(Start::Init, [vec![piece(b"ELM327 v1.5\r\r>")], split(b"OK\r\r>OK\r\r>OK\r\r>OK\r\r>OK\r\r>", 5)].concat()),
+        call(Start::Command(b"ATH1".to_vec()), split(b"OK\r\r>", 2)),
+        call(query.clone(), reply()),
+        call(query, [split(b"?\r\r>", 2), reply()].concat()),
+    ]
+}
+
+/// The most bytes that a piece of a call may have.
+fn most(call: &Call, at: usize) -> usize {
+    if call.start == Start::Init && at == 0 {
+        return 256;
+    }
+    128
+}
+
+/// 00 slipped into each piece at every place, one and as many as the piece may have; pieces of 00 alone at every place; and all of it cut off at every point.
+pub fn nulls(to: &mut impl Take) {
+    let query = || asked(Start::Pids(vec![0x0C, 0x0D], Some(1)), b"7E806410C1AF80D20\r\r>");
+    for framing in [false, true] {
+        for whole in in_pieces() {
+            let mut take = |arrivals: Vec<Arrival>| {
+                let call = Call { arrivals, ..whole.clone() };
+                to.client(ClientCase { framing, repeat: true, calls: vec![query(), call, query()] });
+            };
+            for (k, arrival) in whole.arrivals.iter().enumerate() {
+                let Arrival::Piece(bytes) = arrival else { continue };
+                for at in 0..=bytes.len() {
+                    for size in [1, most(&whole, k) - bytes.len()] {
+                        let mut arrivals = whole.arrivals.clone();
+                        arrivals[k] = Arrival::Piece([&bytes[..at], &vec![0; size], &bytes[at..]].concat());
+                        take(arrivals);
+                    }
+                }
+            }
+            for at in 0..=whole.arrivals.len() {
+                for size in [1, 2, most(&whole, at) - 1, most(&whole, at)] {
+                    let mut arrivals = whole.arrivals.clone();
+                    arrivals.insert(at, Arrival::Piece(vec![0; size]));
+                    take(arrivals);
+                }
+            }
+            let between = whole.arrivals.iter().flat_map(|arrival| [piece(b"\0\0"), arrival.clone()]).chain([piece(b"\0")]);
+            cut_off(to, framing, Call { arrivals: between.collect(), ..whole.clone() });
+        }
+    }
+}
+
+/// Short replies of single bytes, 00 among them, to a query and to its repeat; answers to ATZ with 00, in one piece and byte by byte; pieces of 00 alone of every size.
+pub fn short_nulls(to: &mut impl Take) {
+    texts(b"\x004\r>?", 5, &mut |text| {
+        let query = |arrivals| call(Start::Pid(0x0C, None), arrivals);
+        let reply = || split(&[text, b">"].concat(), 1);
+        to.client(session(false, vec![query(split(b"410C1AF8\r>", 128)), query([reply(), reply()].concat()), query(reply())]));
+    });
+    let init = |arrivals: Vec<Arrival>| ClientCase { framing: true, repeat: true, calls: vec![call(Start::Init, [arrivals, split(&b"OK\r\r>".repeat(5), 5)].concat())] };
+    texts(b"\0x\xFF", 5, &mut |text| to.client(init(split(text, 256))));
+    texts(b"\0x", 7, &mut |text| to.client(init(split(text, 1))));
+    for size in 1..=256 {
+        to.client(init(vec![Arrival::Piece(vec![0; size]), piece(b"ELM327")]));
+        to.client(init(vec![Arrival::Piece([vec![0; size - 1], b"x".to_vec()].concat())]));
+        if size <= 128 {
+            let arrivals = [vec![Arrival::Piece(vec![0; size])], split(b"410C1AF8\r>", 4), vec![Arrival::Piece(vec![0; size])]].concat();
+            to.client(session(false, vec![call(Start::Pid(0x0C, None), arrivals)]));
+        }
+    }
+}
+
+/// Replies of nearly 4,096 bytes that are not 00, so many in a piece, each piece filled with 00 at its front, its end or both; and pieces of 00 alone around the last.
+pub fn full_with_nulls(to: &mut impl Take) {
+    for size in 4090..=4096 {
+        for framed in [false, true] {
+            for (few, front) in [(127, 0), (127, 1), (100, 0), (100, 28), (64, 30), (7, 100)] {
+                let mut reply = if framed { b"7E8064100".repeat(455) } else { b"410C1AF8\r".repeat(456) };
+                reply.truncate(size - 1);
+                reply.push(b'>');
+                let filled = |part: &[u8]| {
+                    let mut bytes = vec![0; front];
+                    bytes.extend_from_slice(part);
+                    bytes.resize(128, 0);
+                    Arrival::Piece(bytes)
+                };
+                let mut arrivals: Vec<Arrival> = reply.chunks(few).map(filled).collect();
+                let last = arrivals.len() - 1;
+                arrivals.insert(last, Arrival::Piece(vec![0; 128]));
+                arrivals.push(piece(b"\0"));
+                let query = call(Start::Pid(0x0C, None), arrivals.clone());
+                let raw = call(Start::Command(b"ATI".to_vec()), arrivals);
+                to.client(session(framed, vec![query, raw]));
+            }
+        }
+    }
+}
+
+/// Replies to which the host adds 00 in the store: short ones, and 00 at every place of a longer one.
+pub fn stored_nulls(to: &mut impl Take) {
+    let mut take = |framed: bool, text: &[u8]| {
+        let reply = [text, b"\r>"].concat();
+        let asked = |start: Start| Call { host_writes: true, ..asked(start, &reply) };
+        to.client(session(framed, vec![asked(Start::Pid(0x0C, None)), asked(Start::Pids(vec![0x0C, 0x41], None))]));
+    };
+    texts(b"014C+ \t\r>\0Ga", 4, &mut |text| {
+        if text.contains(&0) {
+            take(false, text);
+            take(true, text);
+        }
+    });
+    for text in [b"410C 1AF8\r 41 0D\t20 \rA12" as &[u8], b"7E8 04 41 0C 1A F8\r\t7E9 03 41\t0D 20\r+E8A1\r41 0C"] {
+        for first in 0..=text.len() {
+            for second in first..=text.len() {
+                let with_nulls = [&text[..first], b"\0", &text[first..second], b"\0\0", &text[second..]].concat();
+                take(false, &with_nulls);
+                take(true, &with_nulls);
+            }
+        }
+    }
+}
+
 /// Commands to the server: all short lines, all short AT commands.
 pub fn commands(to: &mut impl Take) {
     let mut piece = Vec::new();
@@ -381,6 +503,10 @@ pub fn every(to: &mut impl Take) {
     client_lengths(to);
     around_255(to);
     failures(to);
+    nulls(to);
+    short_nulls(to);
+    full_with_nulls(to);
+    stored_nulls(to);
     server_lengths(to);
     commands(to);
     digits(to);

@@ -23,6 +23,8 @@ pub enum Expected {
     Values { values: Values, framed: bool },
     /// A client session at rest: framing, repeat and multi-PID support, the last query, and what is known of the PIDs that are shown.
     Client { framing: bool, repeat: u8, multi: u8, last: Vec<u8>, known: Vec<(u8, Known)> },
+    /// A piece of 00 alone gets this code and sends nothing; the state and the reply so far, which are shown before and after it, are the same.
+    Untouched { code: u8 },
     /// The reply to a raw command.
     Reply(Vec<u8>),
     /// A bench run: how it ended, and the parts of its record.
@@ -36,6 +38,8 @@ pub struct Plan {
     pub expected: Vec<(usize, Expected)>,
     /// What came about in this case.
     pub seen: Vec<&'static str>,
+    /// What the store of a client session's replies holds in the end.
+    pub store: Vec<u8>,
 }
 
 /// What was compared.
@@ -162,6 +166,11 @@ impl Plan {
         if !log.is_read() {
             return Err("the log goes on".to_string());
         }
+        if self.store != log.store {
+            let agreed = self.store.iter().zip(log.store).take_while(|(rust, rattle)| rust == rattle).count();
+            let part = |store: &[u8]| shown(&store[agreed..store.len().min(agreed + 16)]);
+            return Err(format!("the store from byte {agreed} on: {} is due, Rattle has {}", part(&self.store), part(log.store)));
+        }
         for name in &self.seen {
             *tally.seen.entry(name).or_default() += 1;
         }
@@ -225,6 +234,19 @@ fn check_entry(
                 }
             }
             *often = [false; 256];
+            Ok(())
+        }
+        Expected::Untouched { code } => {
+            let shown = |log: &mut Log| [log.bytes(4).to_vec(), log.text().to_vec(), log.text().to_vec()];
+            let before = shown(log);
+            let answer = log.answer();
+            if (answer.code, answer.count, answer.sent) != (*code, 0, &[]) {
+                return Err(format!("a piece of 00 alone: {code} and no bytes to send are due, Rattle gives {answer:?}"));
+            }
+            let after = shown(log);
+            if before != after {
+                return Err(format!("a piece of 00 alone changes the session, the last query or the reply from {before:02X?} to {after:02X?}"));
+            }
             Ok(())
         }
         Expected::Reply(reply) => same_bytes("reply", reply, log.text()),
@@ -307,6 +329,7 @@ impl Plan {
                         put_number(&mut log, *count);
                     }
                 }
+                Expected::Untouched { .. } => unreachable!("the Rust does not tell what a session holds during a call"),
                 Expected::Reply(reply) => put_text(&mut log, reply),
                 Expected::Run { code, parts } => put_call(&mut log, *code, 0, &parts.iter().flat_map(part_bytes).collect::<Vec<u8>>()),
             }

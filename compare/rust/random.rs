@@ -203,18 +203,67 @@ fn interrupt(rng: &mut Rng, arrivals: &mut Vec<Arrival>, from: usize) {
     arrivals.insert(at, failure);
 }
 
-fn arrivals(rng: &mut Rng, text: &[u8]) -> Vec<Arrival> {
-    pieces(rng, text, 128).into_iter().map(Arrival::Piece).collect()
+/// How 00 bytes are slipped into what arrives: not at all, a few, in runs, or before a third of the others.
+#[derive(Clone, Copy, PartialEq)]
+enum Nulls {
+    None,
+    Few,
+    Runs,
+    Many,
+}
+
+/// In more than a third of the sessions there are some.
+fn nulls(rng: &mut Rng) -> Nulls {
+    *rng.pick(&[Nulls::None, Nulls::None, Nulls::None, Nulls::None, Nulls::None, Nulls::Few, Nulls::Runs, Nulls::Many])
+}
+
+/// A text with 00 bytes slipped in.
+fn slipped(rng: &mut Rng, nulls: Nulls, text: &[u8]) -> Vec<u8> {
+    let mut all = text.to_vec();
+    let mut put = |rng: &mut Rng, size: usize| {
+        let at = rng.below(all.len() + 1);
+        all.splice(at..at, std::iter::repeat_n(0, size));
+    };
+    match nulls {
+        Nulls::None => {}
+        Nulls::Few => (0..rng.from(1, 3)).for_each(|_| put(rng, 1)),
+        Nulls::Runs => (0..rng.from(1, 3)).for_each(|_| {
+            let size = if rng.chance(10) { *rng.pick(&[127, 128, 129, 300]) } else { rng.from(2, 5) };
+            put(rng, size);
+        }),
+        Nulls::Many => all = text.iter().flat_map(|byte| [vec![0; rng.below(6) / 4], vec![*byte]].concat()).collect(),
+    }
+    all
+}
+
+/// Pieces of 00 alone among those that arrive for a call, and after them. Those before the answer to ATZ may be as long as it.
+fn add_nulls(rng: &mut Rng, call: &mut Call) {
+    for _ in 0..rng.from(0, 4) {
+        let at = rng.below(call.arrivals.len() + 1);
+        let most = if call.start == Start::Init && at == 0 { 256 } else { 128 };
+        let size = match rng.below(4) {
+            0 => most,
+            1 => rng.from(1, most),
+            _ => rng.from(1, 3),
+        };
+        call.arrivals.insert(at, Arrival::Piece(vec![0; size]));
+    }
+}
+
+fn arrivals(rng: &mut Rng, nulls: Nulls, text: &[u8]) -> Vec<Arrival> {
+    let text = slipped(rng, nulls, text);
+    pieces(rng, &text, 128).into_iter().map(Arrival::Piece).collect()
 }
 
 /// What arrives during an initialisation: an answer to ATZ and five replies.
-fn init_arrivals(rng: &mut Rng) -> Vec<Arrival> {
+fn init_arrivals(rng: &mut Rng, nulls: Nulls) -> Vec<Arrival> {
     let mut all = Vec::new();
     let banner: Vec<u8> = match rng.below(4) {
         0 => (0..rng.from(1, 256)).map(|_| rng.below(256) as u8).collect(),
         _ => b"ATZ\r\r\rELM327 v1.5\r\r>".to_vec(),
     };
-    all.push(Arrival::Piece(banner));
+    let with_nulls = slipped(rng, nulls, &banner);
+    all.push(Arrival::Piece(if with_nulls.len() <= 256 { with_nulls } else { banner }));
     if rng.chance(10) {
         all[0] = if rng.chance(50) { Arrival::Failed } else { Arrival::Closed };
     }
@@ -223,7 +272,7 @@ fn init_arrivals(rng: &mut Rng) -> Vec<Arrival> {
         if rng.chance(10) {
             damage(rng, &mut text);
         }
-        all.extend(arrivals(rng, &text));
+        all.extend(arrivals(rng, nulls, &text));
     }
     if rng.chance(20) {
         all.truncate(rng.below(all.len() + 1));
@@ -263,14 +312,15 @@ pub fn client(rng: &mut Rng) -> ClientCase {
     // Whether the session is framed, if all goes well.
     let mut framed = false;
     let mut like = style(rng, framed);
+    let nulls = nulls(rng);
     for _ in 0..rng.from(1, 16) {
         if rng.chance(20) || (like.framed != framed && rng.chance(80)) {
             like = style(rng, framed);
         }
-        let mut call = Call { start: Start::Init, arrivals: Vec::new(), failed_write: None };
+        let mut call = Call { start: Start::Init, arrivals: Vec::new(), failed_write: None, host_writes: false };
         match rng.below(100) {
             0..=6 => {
-                call.arrivals = init_arrivals(rng);
+                call.arrivals = init_arrivals(rng, nulls);
                 framed = case.framing;
             }
             7..=19 => {
@@ -282,7 +332,7 @@ pub fn client(rng: &mut Rng) -> ClientCase {
                     _ => {}
                 }
                 call.start = Start::Command(command);
-                call.arrivals = arrivals(rng, &text);
+                call.arrivals = arrivals(rng, nulls, &text);
             }
             _ => {
                 let again = if rng.chance(45) { last.clone() } else { None };
@@ -297,12 +347,15 @@ pub fn client(rng: &mut Rng) -> ClientCase {
                 let mut refused: &[u8] = b"";
                 if rng.chance(8) {
                     refused = *rng.pick(&[b"?\r\r>" as &[u8], b"?>", b">?", b"\r?\r\r>41"]);
-                    call.arrivals = arrivals(rng, refused);
+                    call.arrivals = arrivals(rng, nulls, refused);
                 }
                 // What is left of the refusal belongs to the reply after it: together they have at most 4,096 bytes.
                 let mut text = reply(rng, &like, &pids);
                 text.truncate(4096 - refused.len());
-                call.arrivals.extend(arrivals(rng, &text));
+                call.arrivals.extend(arrivals(rng, nulls, &text));
+                // The host's 00 stand in the store, which has 4,096 bytes.
+                let size: usize = call.arrivals.iter().map(|arrival| if let Arrival::Piece(bytes) = arrival { bytes.len() } else { 0 }).sum();
+                call.host_writes = size <= 4096 && rng.chance(if nulls == Nulls::None { 2 } else { 25 });
             }
         }
         if rng.chance(6) {
@@ -312,6 +365,9 @@ pub fn client(rng: &mut Rng) -> ClientCase {
         }
         if rng.chance(4) {
             call.failed_write = Some(rng.below(7));
+        }
+        if nulls != Nulls::None && !call.host_writes {
+            add_nulls(rng, &mut call);
         }
         case.calls.push(call);
     }

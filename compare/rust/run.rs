@@ -4,7 +4,7 @@ use crate::driver::{Driver, Log};
 use crate::plan::{part_bytes, shown, Expected, Part, Plan};
 use crate::server::{put_group, reply_lines, Line, Own};
 use crate::shrink::{shorter, Case};
-use crate::stream::{Arrival, Empty, Stream};
+use crate::stream::{Arrival, End, Stream};
 use std::cell::RefCell;
 use std::collections::VecDeque;
 use std::fmt::Write as _;
@@ -131,7 +131,7 @@ struct Far {
 
 impl Far {
     fn new(lengths: &[u8]) -> Self {
-        let stream = Stream::new(Empty::WouldBlock);
+        let stream = Stream::new(End::Server);
         Far {
             session: ServerSession::new(stream.clone(), Own::usual().identity()),
             stream,

@@ -2,7 +2,7 @@
 use crate::driver::{server as kind, Driver, Log, Script};
 use crate::plan::{shown, Expected, Plan};
 use crate::shrink::{shorter, Case};
-use crate::stream::{Arrival, Empty, Stream};
+use crate::stream::{Arrival, End, Stream};
 use std::fmt::{Debug, Write};
 use std::io::ErrorKind;
 use tachtalk_elm327_lib::{ClientState, Command, Identity, ReplyLine, ServerSession};
@@ -165,7 +165,7 @@ fn look(plan: &mut Plan, n: usize, expected: Expected) {
 impl Case for ServerCase {
     fn plan(&self) -> Plan {
         let mut plan = Plan::default();
-        let stream = Stream::new(Empty::WouldBlock);
+        let stream = Stream::new(End::Server);
         let mut session = ServerSession::new(stream.clone(), self.own.identity());
         let mut text = String::new();
         let mut answered = 0;

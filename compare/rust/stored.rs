@@ -127,7 +127,7 @@ impl Store {
 impl Take for Store {
     fn client(&mut self, case: ClientCase) {
         if self.turn() {
-            let plan = case.plan_of(&case.pids_of_interest());
+            let plan = case.plan_of(&case.pids_of_interest(), false);
             let kind = CLIENT + u8::from(case.framing) + 2 * u8::from(case.repeat);
             self.add(&case, &plan, kind, 0, &[], &plan.script.bytes);
         }
@@ -277,6 +277,43 @@ fn initialisations(to: &mut Store) {
     whole.extend((0..5).flat_map(|_| split(b"OK\r\r>", 3)));
     for framing in [false, true] {
         every::cut_off(to, framing, call(Start::Init, whole.clone()));
+    }
+}
+
+/// 00 in the pieces of a query that learns a length, of a repeat that is refused and of an initialisation, with pieces of 00 alone between them, before the first and
+/// after the last; and a reply of 4,096 bytes beside its 00.
+fn nulls(to: &mut Store) {
+    let between = |arrivals: Vec<Arrival>| arrivals.into_iter().flat_map(|arrival| [piece(b"\0"), arrival]).chain([piece(b"\0\0")]).collect::<Vec<Arrival>>();
+    let learned = || call(Start::Pid(0xE0, None), between(split(b"\x0041E0\x0001\r4\x001E\x0002\r\0\r\0>\0", 5)));
+    let refused = || call(Start::Pid(0xE0, None), between([split(b"\0?\0\r\r>", 2), split(b"41E0\x0003\r\r>", 4)].concat()));
+    to.client(session(false, vec![learned(), learned(), refused(), learned()]));
+    let whole = [vec![piece(b"\0ATZ\r\r\rELM327\0 v1.5\r\r>\0")], split(&b"O\0K\r\r\0>".repeat(5), 7)].concat();
+    let speed = || call(Start::Pids(vec![0x0C, 0x0D], Some(2)), between(split(b"7E8 06\0 41 0C 1A F8 0D\0 20\r\0\x007E9 03 41 0D 2\x001\r\r>", 9)));
+    for framing in [false, true] {
+        let calls = vec![call(Start::Init, between(whole.clone())), speed(), speed(), call(Start::Init, between(whole[..3].to_vec())), speed()];
+        to.client(ClientCase { framing, repeat: true, calls });
+    }
+    let mut full = b"410C1AF8\r".to_vec();
+    full.resize(4095, b'\r');
+    full.push(b'>');
+    let filled = |part: &[u8]| Arrival::Piece([&[0; 14], part, &[0; 14]].concat());
+    let mut arrivals: Vec<Arrival> = full.chunks(100).map(filled).collect();
+    arrivals.insert(40, Arrival::Piece(vec![0; 128]));
+    to.client(session(false, vec![call(Start::Pid(0x0C, None), arrivals)]));
+}
+
+/// Replies to which the host adds 00: at the ends of lines with white space, inside pairs, ids and lengths, before a tab that is a bad digit, as lines of their own.
+const HOST_REPLIES: [&str; 12] = [
+    "\0\t410C1AF8\n\0\r>", "\t\0\x0b410C1AF8\x0c\0 \r>", "4\x001 0\0C 1A\0F\x008\r>", "41\0\t0C1AF8\r>", "41\t\x000C1AF8\r>", "A\x0012\r>", "\0A\x001\x002\0\r>", "A1\x0023\r>", "7\0E8\x000\x004410C1AF8\r>",
+    "\0\r \0\r7E8\x0004410C1AF8\r\0\r>", "410C1A\0>\r410D20\0\r", "+\x001 0C\r41\0+D20\r>",
+];
+
+fn host_replies(to: &mut Store) {
+    for text in HOST_REPLIES {
+        for framed in [false, true] {
+            let query = Call { host_writes: true, ..asked(Start::Pids(vec![0x0C, 0x0D], None), text.as_bytes()) };
+            to.client(session(framed, vec![query]));
+        }
     }
 }
 
@@ -447,6 +484,16 @@ pub fn stored() -> Store {
     every::failures(&mut to);
     to.head("initialisations cut off", 7, 900);
     initialisations(&mut to);
+    to.head("00 bytes in long exchanges", 1, 9000);
+    nulls(&mut to);
+    to.head("00 bytes at every place", 61, 900);
+    every::nulls(&mut to);
+    to.head("short replies and answers to ATZ with 00", 401, 500);
+    every::short_nulls(&mut to);
+    to.head("00 bytes that the host writes", 1, 500);
+    host_replies(&mut to);
+    to.head("short replies with 00 that the host writes", 1601, 500);
+    every::stored_nulls(&mut to);
     to.head("AT commands", 1, 900);
     at_commands(&mut to);
     to.head("a reader's lines", 1, 900);

@@ -21,19 +21,24 @@ pub enum Event {
     Wrote(Vec<u8>),
     /// A write of these bytes failed.
     WriteFailed(Vec<u8>),
+    /// What a read was to give, with its 00.
     Read(Arrival),
+    /// A piece of 00 alone, which the read passed over.
+    Nulls(Vec<u8>),
 }
 
-/// What a read gives when nothing is left.
-#[derive(Clone, Copy)]
-pub enum Empty {
-    Closed,
-    WouldBlock,
+/// Whose stream it is.
+#[derive(Clone, Copy, PartialEq)]
+pub enum End {
+    /// When nothing is left, the connection is closed. Document 02 §2: the Rust gets "the same pieces without the 00 bytes, those of nothing else left out".
+    Client,
+    /// When nothing is left, a read would block.
+    Server,
 }
 
 struct Wire {
     arrivals: VecDeque<Arrival>,
-    empty: Empty,
+    end: End,
     /// How many writes go well before one fails.
     failed_write: Option<usize>,
     events: Vec<Event>,
@@ -46,10 +51,10 @@ struct Wire {
 pub struct Stream(Rc<RefCell<Wire>>);
 
 impl Stream {
-    pub fn new(empty: Empty) -> Self {
+    pub fn new(end: End) -> Self {
         Stream(Rc::new(RefCell::new(Wire {
             arrivals: VecDeque::new(),
-            empty,
+            end,
             failed_write: None,
             events: Vec::new(),
             taken: 0,
@@ -82,6 +87,25 @@ impl Stream {
     pub fn taken(&self) -> usize {
         self.0.borrow().taken
     }
+
+    /// The pieces of 00 alone that are next to arrive.
+    pub fn nulls_left(&self) -> Vec<Vec<u8>> {
+        let left = &self.0.borrow().arrivals;
+        let nulls = |arrival: &Arrival| match arrival {
+            Arrival::Piece(bytes) if is_nulls(bytes) => Some(bytes.clone()),
+            _ => None,
+        };
+        left.iter().map_while(nulls).collect()
+    }
+}
+
+pub fn without_nulls(bytes: &[u8]) -> Vec<u8> {
+    bytes.iter().copied().filter(|byte| *byte != 0).collect()
+}
+
+/// One or more 00, and nothing else.
+fn is_nulls(bytes: &[u8]) -> bool {
+    !bytes.is_empty() && bytes.iter().all(|byte| *byte == 0)
 }
 
 /// Short, since a session is shown with its stream.
@@ -92,32 +116,40 @@ impl fmt::Debug for Stream {
 }
 
 impl Read for Stream {
+    /// A piece that is longer than the buffer is divided first: its 00 count for 128, and for ATZ's 256.
     fn read(&mut self, buffer: &mut [u8]) -> io::Result<usize> {
         let mut wire = self.0.borrow_mut();
-        let arrival = match (wire.arrivals.pop_front(), wire.empty) {
-            (Some(arrival), _) => arrival,
-            (None, Empty::Closed) => Arrival::Closed,
-            (None, Empty::WouldBlock) => return Err(ErrorKind::WouldBlock.into()),
-        };
-        match arrival {
-            Arrival::Piece(mut bytes) => {
-                if buffer.len() < bytes.len() {
-                    let rest = bytes.split_off(buffer.len());
-                    wire.arrivals.push_front(Arrival::Piece(rest));
+        loop {
+            let arrival = match (wire.arrivals.pop_front(), wire.end) {
+                (Some(arrival), _) => arrival,
+                (None, End::Client) => Arrival::Closed,
+                (None, End::Server) => return Err(ErrorKind::WouldBlock.into()),
+            };
+            match arrival {
+                Arrival::Piece(mut bytes) => {
+                    if buffer.len() < bytes.len() {
+                        let rest = bytes.split_off(buffer.len());
+                        wire.arrivals.push_front(Arrival::Piece(rest));
+                    }
+                    if wire.end == End::Client && is_nulls(&bytes) {
+                        wire.events.push(Event::Nulls(bytes));
+                        continue;
+                    }
+                    let given = if wire.end == End::Client { without_nulls(&bytes) } else { bytes.clone() };
+                    let n = given.len();
+                    buffer[..n].copy_from_slice(&given);
+                    wire.taken += n;
+                    wire.events.push(Event::Read(Arrival::Piece(bytes)));
+                    return Ok(n);
                 }
-                let n = bytes.len();
-                buffer[..n].copy_from_slice(&bytes);
-                wire.taken += n;
-                wire.events.push(Event::Read(Arrival::Piece(bytes)));
-                Ok(n)
-            }
-            Arrival::Failed => {
-                wire.events.push(Event::Read(Arrival::Failed));
-                Err(ErrorKind::ConnectionReset.into())
-            }
-            Arrival::Closed => {
-                wire.events.push(Event::Read(Arrival::Closed));
-                Ok(0)
+                Arrival::Failed => {
+                    wire.events.push(Event::Read(Arrival::Failed));
+                    return Err(ErrorKind::ConnectionReset.into());
+                }
+                Arrival::Closed => {
+                    wire.events.push(Event::Read(Arrival::Closed));
+                    return Ok(0);
+                }
             }
         }
     }

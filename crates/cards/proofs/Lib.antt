@@ -6,3 +6,4 @@ pub mod ServerHold
 pub mod ClientHold
 pub mod LearningHold
 pub mod HostsHold
+pub mod NullsHold

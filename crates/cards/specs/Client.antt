@@ -70,7 +70,7 @@ framingAfter c t = reply (commandSays 80 c (ascii t) .next) "OK\r\r>" .next .ser
 abbrev nearlyFull : Client
 nearlyFull = withUnder (firstQuery .next) (under.Awaiting command.Query) 4090
 
-abbrev fullStore : List ℕ
+abbrev pub fullStore : List ℕ
 fullStore = replicate 4096 65
 
 -- a ClientSession that has asked `010C`, with so many bytes of the reply in the store

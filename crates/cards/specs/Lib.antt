@@ -6,3 +6,4 @@ pub mod Server
 pub mod Client
 pub mod Learning
 pub mod Hosts
+pub mod Nulls

@@ -18,11 +18,11 @@ none-after [] h = refl
 none-after (x ∷ s) h = absurd (omega arith)
 
 -- a kind that is none of the first ones has its call by the others, and the same for the rarer calls
-pub client-rare : (t : Stored) (k : ℕ) (arg : List ℕ) → ((((Unit {0} × (k ≡ 1 → ⊥)) × (k ≡ 2 → ⊥)) × (k ≡ 3 → ⊥)) × (k ≡ 4 → ⊥)) × (k ≡ 5 → ⊥) →
-    rareCall t k arg ≡ clientCall t k arg
+pub client-rare : (t : Stored) (k : ℕ) (arg : List ℕ) →
+    (((((Unit {0} × (k ≡ 1 → ⊥)) × (k ≡ 2 → ⊥)) × (k ≡ 3 → ⊥)) × (k ≡ 4 → ⊥)) × (k ≡ 5 → ⊥)) × (k ≡ 11 → ⊥) → rareCall t k arg ≡ clientCall t k arg
 client-rare t k arg n =
-    let (((((u, a), b), c), d), e) = n in
-    simp (ne-eqb k 1 a, ne-eqb k 2 b, ne-eqb k 3 c, ne-eqb k 4 d, ne-eqb k 5 e)
+    let ((((((u, a), b), c), d), e), f) = n in
+    simp (ne-eqb k 1 a, ne-eqb k 2 b, ne-eqb k 3 c, ne-eqb k 4 d, ne-eqb k 5 e, ne-eqb k 11 f)
 
 pub client-state : (t : Stored) (k : ℕ) (arg : List ℕ) → ((((Unit {0} × (k ≡ 6 → ⊥)) × (k ≡ 7 → ⊥)) × (k ≡ 8 → ⊥)) × (k ≡ 9 → ⊥)) × (k ≡ 10 → ⊥) →
     shown t (stateEntry (t .turn .session) arg) ≡ rareCall t k arg

@@ -5,6 +5,7 @@ use mathlib.Core.Option.{Option, none, some}
 use Prim.Native.Nat.{ℕ, suc}
 use lib.Dec.{eqb}
 use lib.ListN.{length, take, drop, getD}
+use lib.Seq.{sets}
 use Rattle.wire.specs.Answer.{Answer, result, refused}
 use Rattle.pid.specs.Lengths.{lengthIn}
 use Rattle.server_state.specs.declared.FeatureSupport.{FeatureSupport}
@@ -116,7 +117,12 @@ rareCall t kind arg =
     (cond (eqb kind 9) (pieceNoted t (clientLent (failureSays room c failure.Write) out) (t .store))
     (cond (eqb kind 10) (shown t (textEntry (take (c .got) (t .store)))) (shown t (stateEntry c arg))))))
 
--- a call by its kind: 1 is `command`, 2 `query_pid` with a PID and perhaps a count, 3 `query_pids` with no count, 4 `piece`, 5 `finish`
+-- the host writes to its store, from the front on
+abbrev pub hostWrites : Stored → List ℕ → Stored
+hostWrites t arg = record { turn = t .turn; store = sets (t .store) 0 arg }
+
+-- a call by its kind: 1 is `command`, 2 `query_pid` with a PID and perhaps a count, 3 `query_pids` with no count, 4 `piece`, 5 `finish`; at 11 the host writes the
+-- argument to its store, and nothing is logged
 abbrev pub clientCall : Stored → ℕ → List ℕ → Stored
 clientCall t kind arg =
     let c = t .turn .session in
@@ -126,7 +132,8 @@ clientCall t kind arg =
     (cond (eqb kind 2) (startNoted t (clientLent (querySays room c (getD arg 0 0 ∷ []) (countGiven arg) false) out))
     (cond (eqb kind 3) (startNoted t (clientLent (querySays room c arg 0 true) out))
     (cond (eqb kind 4) (let d = pieceSays room c arg (t .store) in pieceNoted t (clientLent d out) (storeAfter c (d .answer) arg (t .store)))
-    (cond (eqb kind 5) (finishNoted t (clientLent (finishSays room c (t .store)) out)) (rareCall t kind arg)))))
+    (cond (eqb kind 5) (finishNoted t (clientLent (finishSays room c (t .store)) out))
+    (cond (eqb kind 11) (hostWrites t arg) (rareCall t kind arg))))))
 
 abbrev pub clientTurn : ClientTurn → List ℕ → List ℕ → List ℕ → Stored
 clientTurn r store out log = record { turn = record { session = client (r .session); at = r .at; out = out; log = log }; store = store }

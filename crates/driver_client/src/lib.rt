@@ -316,6 +316,10 @@ fn run(
                     step.written,
                 );
             }
+            // The host writes to its store between two calls.
+            11 => {
+                wire::put(store, 0, &script[start..end]);
+            }
             _ => {
                 let turn = rare(session, kind, &script[start..end], store, out, log, at);
                 session = turn.session;

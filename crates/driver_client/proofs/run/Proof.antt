@@ -281,6 +281,28 @@ loop-again-5 c =
           ap (finishNoted (here k)) (finish .ensures .0)),
     )
 
+sub-put : tie.Need-sub-put Inv-loop μ-loop
+sub-put c = search needs
+
+part-put-start : tie.Need-part-put-start Inv-loop μ-loop
+part-put-start c = search needs
+
+part-put-end : tie.Need-part-put-end Inv-loop μ-loop
+part-put-end c = search needs
+
+put-requires : tie.Need-put-requires Inv-loop μ-loop
+put-requires c κs = search needs
+
+loop-less-6 : tie.Need-loop-less-6 Inv-loop μ-loop
+loop-less-6 c = less (c .before .before .before .before .before .before)
+
+loop-again-6 : tie.Need-loop-again-6 Inv-loop μ-loop
+loop-again-6 c =
+    let k = c .before .before .before .before .before .before in
+    let match = c .before .before .before .before .before .match in
+    let put = c .before .before .put in
+    (there k, search needs, search needs, search needs, turned k 11 _ (match .keys6) (ap (λ store. with store (here k .turn)) (put .ensures .bytes)))
+
 sub-rare : tie.Need-sub-rare Inv-loop μ-loop
 sub-rare c = search needs
 
@@ -293,11 +315,11 @@ part-rare-end c = search needs
 rare-requires : tie.Need-rare-requires Inv-loop μ-loop
 rare-requires c κs = search needs
 
-loop-less-6 : tie.Need-loop-less-6 Inv-loop μ-loop
-loop-less-6 c = let start = c .before .before .before .before .before .before .before .before .before .before .before in less start
+loop-less-7 : tie.Need-loop-less-7 Inv-loop μ-loop
+loop-less-7 c = let start = c .before .before .before .before .before .before .before .before .before .before .before in less start
 
-loop-again-6 : tie.Need-loop-again-6 Inv-loop μ-loop
-loop-again-6 c =
+loop-again-7 : tie.Need-loop-again-7 Inv-loop μ-loop
+loop-again-7 c =
     let k = c .before .before .before .before .before .before .before .before .before .before .before in
     let match = c .before .before .before .before .before .before .before .before .before .before .match in
     let rare = c .before .before .before .before .before .rare in (
@@ -381,12 +403,18 @@ run-spec =
     put-call-requires-5
     loop-less-5
     loop-again-5
+    sub-put
+    part-put-start
+    part-put-end
+    put-requires
+    loop-less-6
+    loop-again-6
     sub-rare
     part-rare-start
     part-rare-end
     rare-requires
-    loop-less-6
-    loop-again-6
+    loop-less-7
+    loop-again-7
     same-length
     same-length-2
     same-length-3
