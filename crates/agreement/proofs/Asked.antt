@@ -1,6 +1,6 @@
 -- One query of a run: its part is what the vehicle gave, or 8 where its reply is too long.
 use mathlib.Core.Path.{_≡_, refl, sym, ap, subst, _∙_}
-use mathlib.Core.Bool.{Bool, true, false, _&&_}
+use mathlib.Core.Bool.{true, false}
 use mathlib.Core.List.{List, [], _∷_, _++_}
 use Prim.Native.Nat.{ℕ, _≤_, _<_}
 use native.Mathlib.Omega.{arith}
@@ -9,7 +9,7 @@ use lib.Seq.{sets}
 use Rattle.group.specs.Format.{Each}
 use Rattle.wire.specs.Answer.{Answer, result, refused}
 use Rattle.wire.specs.Text.{same}
-use Rattle.wire.proofs.Cases.{by-test, from-no}
+use Rattle.wire.proofs.Cases.{by-test, from-no, and-both}
 use Rattle.wire.proofs.TextLaws.{same-true}
 use Rattle.wire.proofs.All.{Bytes}
 use Rattle.group.specs.Group.{groupBytes}
@@ -67,10 +67,6 @@ pub record Gives (L : ℕ → ℕ) (q : Query) (p : Part) : Type 0 where
 pub record Fails (q : Query) (p : Part) : Type 0 where
   pub answer : p .answer ≡ refused 8
   pub handed : p .handed ≡ commandOf q ∷ []
-
-and-right : (a b : Bool) → (a && b) ≡ true → b ≡ true
-and-right true b e = e
-and-right false b e = from-no cc
 
 -- ---- one query
 
@@ -204,7 +200,7 @@ module _ (L : ℕ → ℕ) (pids : List ℕ) (count : ℕ) (l : Line) (ls : List
           let s : startSays c pids count ≡ sendQuery c q = replied.starts c pids count (rw (m .turn)) (ok .some) (ok .few) in
           by-test (repeats c q)
           (λ e.
-          let last : c .last ≡ text = same-true (c .last) text (and-right (mayTry (c .server .repeat)) (same (c .last) text) e) in
+          let last : c .last ≡ text = same-true (c .last) text (and-both (mayTry (c .server .repeat)) (same (c .last) text) e .1) in
           subst Comes (sym (s ∙ query-repeated c q e)) (repeated last))
           (λ e. subst Comes (sym (s ∙ query-in-full c q e)) in-full)
 

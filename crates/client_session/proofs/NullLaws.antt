@@ -1,6 +1,6 @@
 -- Laws of 00 in a piece.
 use mathlib.Core.Path.{_≡_, refl, sym, ap, _∙_}
-use mathlib.Core.Bool.{Bool, true, false, not, _&&_}
+use mathlib.Core.Bool.{true, false, not}
 use mathlib.Core.List.{List, [], _∷_}
 use Prim.Native.Nat.{ℕ, suc, _+_, _≤_, _<_}
 use native.Mathlib.Numerals.{add-one}
@@ -10,7 +10,7 @@ use lib.ListN.{length, drop, getD, drop-of-length-le}
 use lib.Seq.{drop-cons}
 use borrow.Author.Tests.{eqb-true, ne-eqb, lt-ltb}
 use Rattle.wire.specs.Text.{has, withoutNulls}
-use Rattle.wire.proofs.Cases.{by-test, from-no}
+use Rattle.wire.proofs.Cases.{by-test, and-both}
 use Rattle.wire.proofs.PassingLaws.{passing-length, nulls-none}
 use Rattle.client_session.specs.Piece.{nullsAlone}
 
@@ -45,12 +45,8 @@ none-of : (s : List ℕ) → length s ≡ 0 → s ≡ []
 none-of [] h = refl
 none-of (b ∷ s) h = absurd (omega arith)
 
-and-right : (a b : Bool) → (a && b) ≡ true → b ≡ true
-and-right true b e = e
-and-right false b e = from-no cc
-
 pub alone-nothing : (s : List ℕ) → nullsAlone s ≡ true → withoutNulls s ≡ []
-alone-nothing s e = none-of (withoutNulls s) (eqb-true (length (withoutNulls s)) 0 (and-right (ltb 0 (length s)) (eqb (length (withoutNulls s)) 0) e))
+alone-nothing s e = none-of (withoutNulls s) (eqb-true (length (withoutNulls s)) 0 (and-both (ltb 0 (length s)) (eqb (length (withoutNulls s)) 0) e .1))
 
 -- a piece without 00 has not 00 alone
 pub none-alone : (s : List ℕ) → 0 < length s → has 0 s ≡ false → nullsAlone s ≡ false
