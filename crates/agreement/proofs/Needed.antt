@@ -11,7 +11,7 @@ use Rattle.wire.specs.Answer.{unless}
 use Rattle.wire.specs.Text.{ascii, has, high, isSpace, raised}
 use Rattle.wire.specs.declared.Refusal.the-variants as refusal
 use Rattle.hex.specs.Digits.{hexDigit}
-use Rattle.hex.specs.Read.{digit, leading}
+use Rattle.hex.specs.Read.{digit}
 use Rattle.pid.specs.J1979.{j1979}
 use Rattle.pid.specs.Lengths.{mode01Lengths}
 use Rattle.group.specs.Group.{groupBytes}
@@ -96,7 +96,7 @@ abbrev unanswered : Drive
 unanswered = drive true [] (scriptOf noLine) (replicate 18 0) ((1 ∷ engineValue 0xF8) ++ (0 ∷ 1 ∷ speedValue)) (record { answer = Complete; written = 18 })
 
 unanswered-run : Computed unanswered noLine (ascii "010C1" ∷ ascii "010D" ∷ ascii "010C1" ∷ [])
-unfolding has high isSpace raised hexDigit digit leading j1979 mode01Lengths groupBytes lineList valueFormat atKind lineText replyText canonical
+unfolding has high isSpace raised hexDigit digit j1979 mode01Lengths groupBytes lineList valueFormat atKind lineText replyText canonical
     unless byteTaken byteSays bytesSay answerSays replySays queryText textLines textLine replyLines walked answerOrder learnLength initSays querySays
     replyTakes pieceSays finishSays script queryFormat exchanged pieces initialised part runSays
 unanswered-run = record { ran = record { bytes = low-at (scriptOf noLine) refl; ran = refl }; reads = refl; handed = refl }
@@ -128,13 +128,13 @@ abbrev threeValues : List Query → Drive
 threeValues qs = drive true [] (scriptOf qs) (replicate 35 0) ((1 ∷ ownValue) ++ (3 ∷ engineValue 0xF8) ++ speedValue ++ ownValue) (record { answer = Complete; written = 35 })
 
 crowded-run : Computed (threeValues crowded) crowded (ascii "01E0" ∷ ascii "010D" ∷ [])
-unfolding has high isSpace raised hexDigit digit leading j1979 mode01Lengths groupBytes lineList valueFormat atKind lineText replyText canonical
+unfolding has high isSpace raised hexDigit digit j1979 mode01Lengths groupBytes lineList valueFormat atKind lineText replyText canonical
     unless byteTaken byteSays bytesSay answerSays replySays queryText textLines textLine replyLines walked answerOrder learnLength initSays querySays
     replyTakes pieceSays finishSays script queryFormat exchanged pieces initialised part runSays
 crowded-run = record { ran = record { bytes = low-at (scriptOf crowded) refl; ran = refl }; reads = refl; handed = refl }
 
 apart-run : Computed (threeValues apart) apart (ascii "01E0" ∷ ascii "010D" ∷ [])
-unfolding has high isSpace raised hexDigit digit leading j1979 mode01Lengths groupBytes lineList valueFormat atKind lineText replyText canonical
+unfolding has high isSpace raised hexDigit digit j1979 mode01Lengths groupBytes lineList valueFormat atKind lineText replyText canonical
     unless byteTaken byteSays bytesSay answerSays replySays queryText textLines textLine replyLines walked answerOrder learnLength initSays querySays
     replyTakes pieceSays finishSays script queryFormat exchanged pieces initialised part runSays
 apart-run = record { ran = record { bytes = low-at (scriptOf apart) refl; ran = refl }; reads = refl; handed = refl }
@@ -179,13 +179,13 @@ abbrev twoValues : List Query → Drive
 twoValues qs = drive true [] (scriptOf qs) (replicate 27 0) ((1 ∷ ownValue) ++ (2 ∷ speedValue) ++ ownValue) (record { answer = Complete; written = 27 })
 
 longer-run : Computed (twoValues longer) longer (ascii "01E0" ∷ ascii "01E0" ∷ [])
-unfolding has high isSpace raised hexDigit digit leading j1979 mode01Lengths groupBytes lineList valueFormat atKind lineText replyText canonical
+unfolding has high isSpace raised hexDigit digit j1979 mode01Lengths groupBytes lineList valueFormat atKind lineText replyText canonical
     unless byteTaken byteSays bytesSay answerSays replySays queryText textLines textLine replyLines walked answerOrder learnLength initSays querySays
     replyTakes pieceSays finishSays script queryFormat exchanged pieces initialised part runSays
 longer-run = record { ran = record { bytes = low-at (scriptOf longer) refl; ran = refl }; reads = refl; handed = refl }
 
 level-run : Computed (twoValues level) level (ascii "01E0" ∷ ascii "01E0" ∷ [])
-unfolding has high isSpace raised hexDigit digit leading j1979 mode01Lengths groupBytes lineList valueFormat atKind lineText replyText canonical
+unfolding has high isSpace raised hexDigit digit j1979 mode01Lengths groupBytes lineList valueFormat atKind lineText replyText canonical
     unless byteTaken byteSays bytesSay answerSays replySays queryText textLines textLine replyLines walked answerOrder learnLength initSays querySays
     replyTakes pieceSays finishSays script queryFormat exchanged pieces initialised part runSays
 level-run = record { ran = record { bytes = low-at (scriptOf level) refl; ran = refl }; reads = refl; handed = refl }
@@ -214,7 +214,7 @@ abbrev overrun : Drive
 overrun = drive true [] (scriptOf longer) (replicate 24 0) ((1 ∷ ownValue) ++ replicate 14 0) (record { answer = Refused refusal.SmallBuffer; written = 10 })
 
 overrun-run : Computed overrun longer (ascii "01E0" ∷ ascii "01E0" ∷ [])
-unfolding has high isSpace raised hexDigit digit leading j1979 mode01Lengths groupBytes lineList valueFormat atKind lineText replyText canonical
+unfolding has high isSpace raised hexDigit digit j1979 mode01Lengths groupBytes lineList valueFormat atKind lineText replyText canonical
     unless byteTaken byteSays bytesSay answerSays replySays queryText textLines textLine replyLines walked answerOrder learnLength initSays querySays
     replyTakes pieceSays finishSays script queryFormat exchanged pieces initialised part runSays
 overrun-run = record { ran = record { bytes = low-at (scriptOf longer) refl; ran = refl }; reads = refl; handed = refl }
@@ -243,13 +243,13 @@ abbrev twoParts : Drive
 twoParts = drive true [] (scriptOf twice) (replicate 18 0) ((1 ∷ engineValue 0xF8) ++ (1 ∷ engineValue 0xF8)) (record { answer = Complete; written = 18 })
 
 once-run : Computed onePart once (ascii "010C1" ∷ [])
-unfolding has high isSpace raised hexDigit digit leading j1979 mode01Lengths groupBytes lineList valueFormat atKind lineText replyText canonical
+unfolding has high isSpace raised hexDigit digit j1979 mode01Lengths groupBytes lineList valueFormat atKind lineText replyText canonical
     unless byteTaken byteSays bytesSay answerSays replySays queryText textLines textLine replyLines walked answerOrder learnLength initSays querySays
     replyTakes pieceSays finishSays script queryFormat exchanged pieces initialised part runSays
 once-run = record { ran = record { bytes = low-at (scriptOf once) refl; ran = refl }; reads = refl; handed = refl }
 
 twice-run : Computed twoParts twice (ascii "010C1" ∷ ascii "010C1" ∷ [])
-unfolding has high isSpace raised hexDigit digit leading j1979 mode01Lengths groupBytes lineList valueFormat atKind lineText replyText canonical
+unfolding has high isSpace raised hexDigit digit j1979 mode01Lengths groupBytes lineList valueFormat atKind lineText replyText canonical
     unless byteTaken byteSays bytesSay answerSays replySays queryText textLines textLine replyLines walked answerOrder learnLength initSays querySays
     replyTakes pieceSays finishSays script queryFormat exchanged pieces initialised part runSays
 twice-run = record { ran = record { bytes = low-at (scriptOf twice) refl; ran = refl }; reads = refl; handed = refl }
@@ -311,13 +311,13 @@ abbrev speedRun : ℕ → Drive
 speedRun b = drive true [] (scriptOf (speed b)) (replicate 8 0) (1 ∷ speedValue) (record { answer = Complete; written = 8 })
 
 speed-run : Computed (speedRun 0x20) (speed 0x20) (ascii "010D" ∷ [])
-unfolding has high isSpace raised hexDigit digit leading j1979 mode01Lengths groupBytes lineList valueFormat atKind lineText replyText canonical
+unfolding has high isSpace raised hexDigit digit j1979 mode01Lengths groupBytes lineList valueFormat atKind lineText replyText canonical
     unless byteTaken byteSays bytesSay answerSays replySays queryText textLines textLine replyLines walked answerOrder learnLength initSays querySays
     replyTakes pieceSays finishSays script queryFormat exchanged pieces initialised part runSays
 speed-run = record { ran = record { bytes = low-at (scriptOf (speed 0x20)) refl; ran = refl }; reads = refl; handed = refl }
 
 no-byte : (recorded (speedRun 0x120 .run) (speedRun 0x120 .buffer) ≡ runLent (comesTo (speedRun 0x120)) (replicate 8 0)) × Ran (speedRun 0x20) × (Equal (speedRun 0x120) (speedRun 0x20) → ⊥)
-unfolding has high isSpace raised hexDigit digit leading j1979 mode01Lengths groupBytes lineList valueFormat atKind lineText replyText
+unfolding has high isSpace raised hexDigit digit j1979 mode01Lengths groupBytes lineList valueFormat atKind lineText replyText
     canonical unless byteTaken byteSays bytesSay answerSays replySays queryText textLines textLine replyLines walked answerOrder learnLength initSays
     querySays replyTakes pieceSays finishSays script queryFormat exchanged pieces initialised part runSays
 no-byte = (
@@ -339,7 +339,7 @@ abbrev looseRun : Drive
 looseRun = drive true [] (scriptOf loose) (replicate 15 0) ((2 ∷ 0x0C ∷ 0xE9 ∷ 0x0F ∷ 3 ∷ 0x41 ∷ 0x0C ∷ 0x1A ∷ []) ++ speedValue) (record { answer = Complete; written = 15 })
 
 loose-run : Computed looseRun loose (ascii "010D" ∷ [])
-unfolding has high isSpace raised hexDigit digit leading j1979 mode01Lengths groupBytes lineList valueFormat atKind lineText replyText canonical
+unfolding has high isSpace raised hexDigit digit j1979 mode01Lengths groupBytes lineList valueFormat atKind lineText replyText canonical
     unless byteTaken byteSays bytesSay answerSays replySays queryText textLines textLine replyLines walked answerOrder learnLength initSays querySays
     replyTakes pieceSays finishSays script queryFormat exchanged pieces initialised part runSays
 loose-run = record { ran = record { bytes = low-at (scriptOf loose) refl; ran = refl }; reads = refl; handed = refl }

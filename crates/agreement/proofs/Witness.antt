@@ -14,7 +14,7 @@ use Rattle.wire.proofs.Cases.{by-test, or-none}
 use Rattle.wire.proofs.All.{all-from}
 use Rattle.wire.specs.declared.Refusal.the-variants as refusal
 use Rattle.hex.specs.Digits.{hexDigit}
-use Rattle.hex.specs.Read.{digit, leading}
+use Rattle.hex.specs.Read.{digit}
 use Rattle.pid.specs.J1979.{j1979}
 use Rattle.pid.specs.Lengths.{mode01Lengths}
 use Rattle.group.specs.Group.{groupBytes}
@@ -91,7 +91,7 @@ abbrev pub first : Drive
 first = drive true [] (scriptOf unknown) (replicate 45 0) (unknownRecord ++ (0 ∷ [])) (record { answer = Complete; written = 44 })
 
 pub first-run : Computed first unknown (ascii "010C1" ∷ ascii "010C1" ∷ ascii "010C0D" ∷ ascii "01E0" ∷ [])
-unfolding has high isSpace raised hexDigit digit leading j1979 mode01Lengths groupBytes lineList valueFormat atKind lineText replyText canonical
+unfolding has high isSpace raised hexDigit digit j1979 mode01Lengths groupBytes lineList valueFormat atKind lineText replyText canonical
     unless byteTaken byteSays bytesSay answerSays replySays queryText textLines textLine replyLines walked answerOrder learnLength initSays querySays
     replyTakes pieceSays finishSays script queryFormat exchanged pieces initialised part runSays
 first-run = record { ran = record { bytes = low-at (scriptOf unknown) refl; ran = refl }; reads = refl; handed = refl }
@@ -106,13 +106,13 @@ other low =
     ((1 ∷ engineValue low) ++ (1 ∷ engineValue 0xF8) ++ (2 ∷ engineValue 0xF8) ++ speedValue ++ (1 ∷ ownValue)) (record { answer = Complete; written = 44 })
 
 second-run : Computed (other 0xF8) (known 0xF8) (ascii "010C1" ∷ ascii "010C1" ∷ ascii "010C0D" ∷ ascii "01E0" ∷ [])
-unfolding has high isSpace raised hexDigit digit leading j1979 mode01Lengths groupBytes lineList valueFormat atKind lineText replyText canonical
+unfolding has high isSpace raised hexDigit digit j1979 mode01Lengths groupBytes lineList valueFormat atKind lineText replyText canonical
     unless byteTaken byteSays bytesSay answerSays replySays queryText textLines textLine replyLines walked answerOrder learnLength initSays querySays
     replyTakes pieceSays finishSays script queryFormat exchanged pieces initialised part runSays
 second-run = record { ran = record { bytes = low-at (scriptOf (known 0xF8)) refl; ran = refl }; reads = refl; handed = refl }
 
 third-run : Computed (other 0xF9) (known 0xF9) (ascii "010C1" ∷ ascii "010C1" ∷ ascii "010C0D" ∷ ascii "01E0" ∷ [])
-unfolding has high isSpace raised hexDigit digit leading j1979 mode01Lengths groupBytes lineList valueFormat atKind lineText replyText canonical
+unfolding has high isSpace raised hexDigit digit j1979 mode01Lengths groupBytes lineList valueFormat atKind lineText replyText canonical
     unless byteTaken byteSays bytesSay answerSays replySays queryText textLines textLine replyLines walked answerOrder learnLength initSays querySays
     replyTakes pieceSays finishSays script queryFormat exchanged pieces initialised part runSays
 third-run = record { ran = record { bytes = low-at (scriptOf (known 0xF9)) refl; ran = refl }; reads = refl; handed = refl }
@@ -122,7 +122,7 @@ abbrev pub ended6 : Drive
 ended6 = drive true [] (scriptOf unknown) (replicate 20 0) ((1 ∷ engineValue 0xF8) ++ (1 ∷ engineValue 0xF8) ++ (0 ∷ 0 ∷ [])) (record { answer = Refused refusal.SmallBuffer; written = 18 })
 
 pub ended6-run : Computed ended6 unknown (ascii "010C1" ∷ ascii "010C1" ∷ ascii "010C0D" ∷ [])
-unfolding has high isSpace raised hexDigit digit leading j1979 mode01Lengths groupBytes lineList valueFormat atKind lineText replyText canonical
+unfolding has high isSpace raised hexDigit digit j1979 mode01Lengths groupBytes lineList valueFormat atKind lineText replyText canonical
     unless byteTaken byteSays bytesSay answerSays replySays queryText textLines textLine replyLines walked answerOrder learnLength initSays querySays
     replyTakes pieceSays finishSays script queryFormat exchanged pieces initialised part runSays
 ended6-run = record { ran = record { bytes = low-at (scriptOf unknown) refl; ran = refl }; reads = refl; handed = refl }
@@ -135,7 +135,7 @@ abbrev lastUnasked : Drive
 lastUnasked = drive true [] (scriptOf unasked) (replicate 20 0) ((1 ∷ engineValue 0xF8) ++ (1 ∷ engineValue 0xF8) ++ (0 ∷ 0 ∷ [])) (record { answer = Refused refusal.SmallBuffer; written = 18 })
 
 unasked-run : Computed lastUnasked unasked (ascii "010C1" ∷ ascii "010C1" ∷ ascii "010C0D" ∷ [])
-unfolding has high isSpace raised hexDigit digit leading j1979 mode01Lengths groupBytes lineList valueFormat atKind lineText replyText canonical
+unfolding has high isSpace raised hexDigit digit j1979 mode01Lengths groupBytes lineList valueFormat atKind lineText replyText canonical
     unless byteTaken byteSays bytesSay answerSays replySays queryText textLines textLine replyLines walked answerOrder learnLength initSays querySays
     replyTakes pieceSays finishSays script queryFormat exchanged pieces initialised part runSays
 unasked-run = record { ran = record { bytes = low-at (scriptOf unasked) refl; ran = refl }; reads = refl; handed = refl }
@@ -298,19 +298,19 @@ abbrev turned : Drive
 turned = bothRun (of7E8 ∷ of7E9 ∷ []) (engineOf 0xE9 0 1 ++ engineOf 0xEA 0x1A 0xF8 ++ speedOf 0xE9 0x21 ++ speedOf 0xEA 0x20)
 
 by-line-run : Computed byLine (both (of7E9 ∷ of7E8 ∷ [])) (ascii "010D0C" ∷ [])
-unfolding has high isSpace raised hexDigit digit leading j1979 mode01Lengths groupBytes lineList valueFormat atKind lineText replyText canonical
+unfolding has high isSpace raised hexDigit digit j1979 mode01Lengths groupBytes lineList valueFormat atKind lineText replyText canonical
     unless byteTaken byteSays bytesSay answerSays replySays queryText textLines textLine replyLines walked answerOrder learnLength initSays querySays
     replyTakes pieceSays finishSays script queryFormat exchanged pieces initialised part runSays
 by-line-run = record { ran = record { bytes = low-at (byLine .scriptBytes) refl; ran = refl }; reads = refl; handed = refl }
 
 by-pid-run : Computed byPid (both (engineLine 0x7EA 0x1A 0xF8 ∷ engineLine 0x7E9 0 1 ∷ speedLine 0x7EA 0x20 ∷ speedLine 0x7E9 0x21 ∷ [])) (ascii "010D0C" ∷ [])
-unfolding has high isSpace raised hexDigit digit leading j1979 mode01Lengths groupBytes lineList valueFormat atKind lineText replyText canonical
+unfolding has high isSpace raised hexDigit digit j1979 mode01Lengths groupBytes lineList valueFormat atKind lineText replyText canonical
     unless byteTaken byteSays bytesSay answerSays replySays queryText textLines textLine replyLines walked answerOrder learnLength initSays querySays
     replyTakes pieceSays finishSays script queryFormat exchanged pieces initialised part runSays
 by-pid-run = record { ran = record { bytes = low-at (byPid .scriptBytes) refl; ran = refl }; reads = refl; handed = refl }
 
 turned-run : Computed turned (both (of7E8 ∷ of7E9 ∷ [])) (ascii "010D0C" ∷ [])
-unfolding has high isSpace raised hexDigit digit leading j1979 mode01Lengths groupBytes lineList valueFormat atKind lineText replyText canonical
+unfolding has high isSpace raised hexDigit digit j1979 mode01Lengths groupBytes lineList valueFormat atKind lineText replyText canonical
     unless byteTaken byteSays bytesSay answerSays replySays queryText textLines textLine replyLines walked answerOrder learnLength initSays querySays
     replyTakes pieceSays finishSays script queryFormat exchanged pieces initialised part runSays
 turned-run = record { ran = record { bytes = low-at (turned .scriptBytes) refl; ran = refl }; reads = refl; handed = refl }

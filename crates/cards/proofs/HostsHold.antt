@@ -3,7 +3,7 @@ use mathlib.Core.Path.{refl}
 use Rattle.wire.specs.Answer.{unless}
 use Rattle.wire.specs.Text.{isSpace, raised, has, high}
 use Rattle.hex.specs.Digits.{hexDigit}
-use Rattle.hex.specs.Read.{digit, leading}
+use Rattle.hex.specs.Read.{digit}
 use Rattle.pid.specs.J1979.{j1979}
 use Rattle.pid.specs.Lengths.{mode01Lengths}
 use Rattle.group.specs.Group.{groupBytes}
@@ -22,12 +22,12 @@ use Rattle.cards.specs.Hosts.{hosts, vehicles}
 use Rattle.cards.proofs.ExampleLaws.{_&_}
 
 pub hosts-hold : AsExpected hosts
-unfolding isSpace raised has high hexDigit digit leading j1979 mode01Lengths groupBytes valueFormat queryText textLines textLine replyLines walked
+unfolding isSpace raised has high hexDigit digit j1979 mode01Lengths groupBytes valueFormat queryText textLines textLine replyLines walked
     answerOrder learnLength unless framingEffect initSays commandSays querySays replyTakes pieceSays failureSays finishSays
 hosts-hold = refl & refl & refl & refl & refl & refl & refl & refl & refl & tt
 
 pub vehicles-hold : AsExpected vehicles
-unfolding isSpace raised has high hexDigit digit leading j1979 mode01Lengths groupBytes valueFormat queryText textLines textLine replyLines walked
+unfolding isSpace raised has high hexDigit digit j1979 mode01Lengths groupBytes valueFormat queryText textLines textLine replyLines walked
     answerOrder learnLength unless framingEffect commandSays querySays replyTakes pieceSays finishSays
 vehicles-hold =
     refl & refl & refl & refl & refl & refl & refl & refl & refl & refl &

@@ -3,7 +3,7 @@ use mathlib.Core.Path.{refl}
 use Rattle.wire.specs.Answer.{unless}
 use Rattle.wire.specs.Text.{isSpace, raised, has, high}
 use Rattle.hex.specs.Digits.{hexDigit}
-use Rattle.hex.specs.Read.{digit, leading}
+use Rattle.hex.specs.Read.{digit}
 use Rattle.pid.specs.J1979.{j1979}
 use Rattle.pid.specs.Lengths.{mode01Lengths}
 use Rattle.group.specs.Group.{groupBytes}
@@ -23,7 +23,7 @@ use Rattle.cards.specs.Learning.{learning, orders, numbered}
 use Rattle.cards.proofs.ExampleLaws.{_&_}
 
 pub learning-holds : AsExpected learning
-unfolding isSpace raised has high hexDigit digit leading j1979 mode01Lengths groupBytes valueFormat queryText textLines textLine replyLines walked
+unfolding isSpace raised has high hexDigit digit j1979 mode01Lengths groupBytes valueFormat queryText textLines textLine replyLines walked
     answerOrder learnLength unless readReply framingEffect commandSays querySays replyTakes pieceSays finishSays
 learning-holds =
     refl & refl & refl & refl & refl & refl & refl & refl & refl & refl &
@@ -31,11 +31,11 @@ learning-holds =
     refl & tt
 
 pub orders-hold : AsExpected orders
-unfolding isSpace raised has high hexDigit digit leading j1979 mode01Lengths groupBytes valueFormat queryText textLines textLine replyLines walked
+unfolding isSpace raised has high hexDigit digit j1979 mode01Lengths groupBytes valueFormat queryText textLines textLine replyLines walked
     answerOrder learnLength unless framingEffect commandSays querySays replyTakes pieceSays finishSays
 orders-hold = refl & refl & refl & refl & refl & refl & refl & refl & refl & tt
 
 pub numbered-hold : AsExpected numbered
-unfolding isSpace raised has high hexDigit digit leading j1979 mode01Lengths groupBytes valueFormat queryText textLines textLine replyLines walked
+unfolding isSpace raised has high hexDigit digit j1979 mode01Lengths groupBytes valueFormat queryText textLines textLine replyLines walked
     answerOrder learnLength unless readReply framingEffect commandSays querySays replyTakes pieceSays finishSays
 numbered-hold = refl & refl & refl & refl & refl & refl & refl & tt

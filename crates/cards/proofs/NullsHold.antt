@@ -5,7 +5,7 @@ use mathlib.Core.List.{[], _∷_}
 use Rattle.wire.specs.Answer.{unless}
 use Rattle.wire.specs.Text.{isSpace, raised, has, high}
 use Rattle.hex.specs.Digits.{hexDigit}
-use Rattle.hex.specs.Read.{digit, leading}
+use Rattle.hex.specs.Read.{digit}
 use Rattle.pid.specs.J1979.{j1979}
 use Rattle.pid.specs.Lengths.{mode01Lengths}
 use Rattle.group.specs.Group.{groupBytes}
@@ -27,7 +27,7 @@ use Rattle.cards.specs.Nulls.{nulls}
 use Rattle.cards.proofs.ExampleLaws.{_&_}
 
 pub nulls-hold : AsExpected nulls
-unfolding isSpace raised has high hexDigit digit leading j1979 mode01Lengths groupBytes valueFormat queryText textLines textLine replyLines lineFrom walked
+unfolding isSpace raised has high hexDigit digit j1979 mode01Lengths groupBytes valueFormat queryText textLines textLine replyLines lineFrom walked
     answerOrder learnLength unless readReply framingEffect initSays commandSays querySays replyTakes pieceSays finishSays
 nulls-hold =
     refl & refl & refl & refl & refl & refl & refl & refl & refl & refl &
@@ -36,5 +36,5 @@ nulls-hold =
 
 -- a line with 00 of an unknown ECU decoded into a buffer of two bytes
 pub decoded : DecodedAs (textLine false (0x34 ∷ 0x00 ∷ 0x31 ∷ [])) (9 ∷ 9 ∷ []) (record { ecu = 0; len = 1 }) (0x41 ∷ 9 ∷ [])
-unfolding hexDigit digit leading textLine
+unfolding hexDigit digit textLine
 decoded = record { ecu = refl; bytes = record { next = refl; bytes = refl } }

@@ -7,7 +7,7 @@ use lib.ListN.{replicate}
 use Rattle.wire.specs.Answer.{unless}
 use Rattle.wire.specs.Text.{ascii, has, high, isSpace, raised}
 use Rattle.hex.specs.Digits.{hexDigit}
-use Rattle.hex.specs.Read.{digit, leading}
+use Rattle.hex.specs.Read.{digit}
 use Rattle.pid.specs.J1979.{j1979}
 use Rattle.pid.specs.Lengths.{mode01Lengths}
 use Rattle.group.specs.Group.{groupBytes}
@@ -62,6 +62,6 @@ clientLog =
 
 client-log : storedOf (clientRun clientCalls (clientAt (freshClient true true) 0 (replicate 4096 0) (replicate 80 9) (replicate 60 9))) ≡
     storedAs 59 (speeds ++ replicate 4081 0) (values ++ replicate 67 9) (clientLog ++ (9 ∷ []))
-unfolding unless has high isSpace hexDigit digit leading j1979 mode01Lengths groupBytes valueFormat queryText textLines textLine replyLines walked
+unfolding unless has high isSpace hexDigit digit j1979 mode01Lengths groupBytes valueFormat queryText textLines textLine replyLines walked
     answerOrder querySays replyTakes pieceSays finishSays calls
 client-log = refl

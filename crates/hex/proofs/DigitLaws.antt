@@ -12,7 +12,7 @@ use Rattle.wire.specs.Put.{Put}
 use Rattle.wire.proofs.PutLaws.{put-then}
 use Rattle.wire.proofs.Cases.{by-test, at-below, holds, held}
 use Rattle.wire.proofs.All.{All, all-append}
-use Rattle.hex.specs.Read.{digit, leading, shifted, digitsAfter, hexNumber, pairBytes}
+use Rattle.hex.specs.Read.{digit, shifted, digitsAfter, hexNumber, pairBytes}
 use Rattle.hex.specs.Digits.{hexDigit, hexDigits, hexByte, hexBytes}
 
 -- ---- one digit
@@ -21,11 +21,6 @@ use Rattle.hex.specs.Digits.{hexDigit, hexDigits, hexByte, hexBytes}
 pub digit-back : (d : ℕ) → d < 16 → digit (hexDigit d) ≡ some d
 unfolding digit hexDigit
 digit-back d h = held d (digit (hexDigit d)) (at-below 16 (λ d. holds d (digit (hexDigit d))) tt d h)
-
--- also where it stands first
-pub leading-back : (d : ℕ) → d < 16 → leading (hexDigit d) ≡ some d
-unfolding digit leading hexDigit
-leading-back d h = held d (leading (hexDigit d)) (at-below 16 (λ d. holds d (leading (hexDigit d))) tt d h)
 
 -- it lies between 0 and F, so below 128
 pub digit-between : (d : ℕ) → d < 16 → (48 ≤ hexDigit d) × (hexDigit d ≤ 70)
@@ -47,7 +42,7 @@ after-more o (x ∷ s) c = after-more (shifted o (digit x)) s c
 
 number-more : (s : List ℕ) (c : ℕ) → 0 < length s → hexNumber (s ++ (c ∷ [])) ≡ shifted (hexNumber s) (digit c)
 number-more [] c h = absurd (omega arith)
-number-more (x ∷ s) c h = after-more (leading x) s c
+number-more (x ∷ s) c h = after-more (digit x) s c
 
 -- the lowest digit and those above it
 mod-more : (n m : ℕ) → 0 < m → 16 * (n / 16 % m) + n % 16 ≡ n % (16 * m)
@@ -60,7 +55,7 @@ mod-more n m h =
 
 -- they read back, cut to the width: one law for pairs and ids
 pub digits-back : (w n : ℕ) → hexNumber (hexDigits (suc w) n) ≡ some (n % 16 ^ suc w)
-digits-back zero n = leading-back (n % 16) (omega arith)
+digits-back zero n = digit-back (n % 16) (omega arith)
 digits-back (suc w) n =
     let m = 16 ^ suc w in
     let low = mod-more n m (one-le-pow (suc w) 16 (omega arith)) ∙ ap (λ k. n % k) (sym (pow-succ' 16 (suc w))) in

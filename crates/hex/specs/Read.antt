@@ -1,10 +1,10 @@
--- Hex digits read. Document 01, client_session.rs: "A hex digit is 0 to 9, A to F or a to f. A pair may also be `+` and a digit, an id `+` and two,
--- as Rust's `from_str_radix` takes them. Bad pairs and an odd last digit are skipped."
+-- Hex digits read. Document 01, client_session.rs: "A hex digit is 0 to 9, A to F or a to f." "Bad pairs and an odd last digit are skipped." Document 02 §4 ends
+-- 01's "A pair may also be `+` and a digit, an id `+` and two": "Pairs and ids with a plus now count as bad hex: the pair is skipped, the id becomes 000."
 use mathlib.Core.Bool.{Bool, cond, _&&_}
 use mathlib.Core.List.{List, [], _∷_, _++_}
 use mathlib.Core.Option.{Option, none, some}
 use Prim.Native.Nat.{ℕ, _+_, _-_, _*_}
-use lib.Dec.{eqb, leb}
+use lib.Dec.{leb}
 
 abbrev pub within : ℕ → ℕ → ℕ → Bool
 within lo hi c = leb lo c && leb c hi
@@ -16,10 +16,6 @@ digit c =
     (cond (within 65 70 c) (some (c - 55))
     (cond (within 97 102 c) (some (c - 87)) none))
 
--- the first character's number: a `+` adds nothing to the digits after it, so it counts as 0
-unfoldable pub leading : ℕ → Option ℕ
-leading c = cond (eqb c 43) (some 0) (digit c)
-
 -- a number and one digit more
 abbrev pub shifted : Option ℕ → Option ℕ → Option ℕ
 shifted none d = none
@@ -30,10 +26,10 @@ abbrev pub digitsAfter : Option ℕ → List ℕ → Option ℕ
 digitsAfter n [] = n
 digitsAfter n (c ∷ s) = digitsAfter (shifted n (digit c)) s
 
--- the number of a pair's two characters or of an id's three, none where one is bad (a lone `+`, which Rust refuses, is never asked for)
+-- the number of a pair's two characters or of an id's three, none where one is bad
 abbrev pub hexNumber : List ℕ → Option ℕ
 hexNumber [] = none
-hexNumber (c ∷ s) = digitsAfter (leading c) s
+hexNumber (c ∷ s) = digitsAfter (digit c) s
 
 abbrev pub kept : Option ℕ → List ℕ
 kept none = []

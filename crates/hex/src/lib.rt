@@ -3,7 +3,7 @@ ghost use mathlib.Core.Path.{_≡_};
 ghost use mathlib.Core.List.{[], _∷_};
 ghost use Prim.Native.Nat.{_%_};
 ghost use Rattle.wire.specs.Put.{Put};
-ghost use Rattle.hex.specs.Read.{digit, leading, hexNumber};
+ghost use Rattle.hex.specs.Read.{digit, hexNumber};
 ghost use Rattle.hex.specs.Digits.{hexDigit, hexDigits, hexByte};
 ghost use Rattle.hex.specs.Answers.{digitOf, hexOf};
 
@@ -30,21 +30,11 @@ pub fn hex_digit(c: u8) -> HexDigit
     }
 }
 
-// The first character of a pair or an id: a `+` counts as 0, as in Rust's `from_str_radix`.
-fn leading_digit(c: u8) -> HexDigit
-    ensures { λ r. ⌜ digitOf r ≡ leading c ⌝ }
-{
-    if c == b'+' {
-        return HexDigit::Digit(0);
-    }
-    hex_digit(c)
-}
-
 // Two characters as a number, which a byte holds.
 pub fn hex_pair(a: u8, b: u8) -> HexNumber
     ensures { λ r. ⌜ hexOf r ≡ hexNumber (a ∷ b ∷ []) ⌝ }
 {
-    let HexDigit::Digit(high) = leading_digit(a) else {
+    let HexDigit::Digit(high) = hex_digit(a) else {
         return HexNumber::Bad;
     };
     let HexDigit::Digit(low) = hex_digit(b) else {

@@ -4,7 +4,7 @@ use mathlib.Core.List.{[], _∷_}
 use Rattle.wire.specs.Answer.{refused, unless}
 use Rattle.wire.specs.Text.{ascii, has, high, isSpace, raised}
 use Rattle.hex.specs.Digits.{hexDigit}
-use Rattle.hex.specs.Read.{digit, leading}
+use Rattle.hex.specs.Read.{digit}
 use Rattle.pid.specs.J1979.{j1979}
 use Rattle.pid.specs.Lengths.{mode01Lengths}
 use Rattle.group.specs.Group.{groupBytes}
@@ -30,7 +30,7 @@ use Rattle.hire_text.specs.Hire.{refusedLine, runText, hireText, hirePri
 
 -- "Input bytes 01 0C 02 01 00 04 41 0C 1A F8 .. print `01 0C E9 0F 04 41 0C 1A F8`"
 example : hirePrints (0x01 ∷ 0x0C ∷ 0x02 ∷ 0x01 ∷ 0x00 ∷ 0x04 ∷ 0x41 ∷ 0x0C ∷ 0x1A ∷ 0xF8 ∷ []) ≡ ascii "01 0C E9 0F 04 41 0C 1A F8\n"
-unfolding has high isSpace raised hexDigit digit leading j1979 mode01Lengths groupBytes lineList valueFormat atKind lineText replyText canonical
+unfolding has high isSpace raised hexDigit digit j1979 mode01Lengths groupBytes lineList valueFormat atKind lineText replyText canonical
     unless byteTaken byteSays bytesSay answerSays replySays queryText textLines textLine replyLines walked answerOrder learnLength initSays querySays
     replyTakes pieceSays finishSays script queryFormat exchanged pieces initialised part runSays hireText
 example = refl
@@ -39,7 +39,7 @@ example = refl
 two-ecus : hirePrints (0x02 ∷ 0x0D ∷ 0x0C ∷ 0x00 ∷ 0x02 ∷ 0xEA ∷ 0x0F ∷ 0x06 ∷ 0x41 ∷ 0x0D ∷ 0x20 ∷ 0x0C ∷ 0x1A ∷ 0xF8 ∷
     0xE9 ∷ 0x0F ∷ 0x06 ∷ 0x41 ∷ 0x0C ∷ 0x00 ∷ 0x01 ∷ 0x0D ∷ 0x21 ∷ []) ≡
     ascii "04 0C EA 0F 04 41 0C 1A F8 0C E9 0F 04 41 0C 00 01 0D EA 0F 03 41 0D 20 0D E9 0F 03 41 0D 21\n"
-unfolding has high isSpace raised hexDigit digit leading j1979 mode01Lengths groupBytes lineList valueFormat atKind lineText replyText canonical
+unfolding has high isSpace raised hexDigit digit j1979 mode01Lengths groupBytes lineList valueFormat atKind lineText replyText canonical
     unless byteTaken byteSays bytesSay answerSays replySays queryText textLines textLine replyLines walked answerOrder learnLength initSays querySays
     replyTakes pieceSays finishSays script queryFormat exchanged pieces initialised part runSays hireText
 two-ecus = refl

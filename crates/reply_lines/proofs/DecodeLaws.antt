@@ -17,7 +17,7 @@ use Rattle.wire.proofs.PassingLaws.{passing-length}
 use Rattle.wire.proofs.Cases.{by-test}
 use Rattle.hex.specs.Read.{hexNumber, kept, pairBytes}
 use Rattle.wire.proofs.All.{All, all-append}
-use Rattle.hex.proofs.ReadLaws.{Below, number-small}
+use Rattle.hex.proofs.ReadLaws.{Below, number-small, plus-bad}
 use Rattle.line_list.specs.Lines.{Line, line}
 use Rattle.reply_lines.specs.Lines.{characters}
 use Rattle.reply_lines.specs.Decode.{textLine, DecodedAs}
@@ -72,6 +72,12 @@ line-framed text (a ∷ b ∷ c ∷ []) rest q h = absurd (omega arith)
 line-framed text (a ∷ b ∷ c ∷ d ∷ []) rest q h = absurd (omega arith)
 line-framed text (a ∷ b ∷ c ∷ d ∷ e ∷ []) rest q h = rw (q, le-ltb (length (a ∷ b ∷ c ∷ d ∷ e ∷ rest)) 5 (omega arith))
 line-framed text (a ∷ b ∷ c ∷ d ∷ e ∷ f ∷ s) rest q h = absurd (omega arith)
+
+-- document 02 §4: "the id becomes 000", which is known, and the pairs are read as they stand
+pub line-plus : (text s t : List ℕ) → 5 ≤ length (characters text) → take 3 (characters text) ≡ s ++ (43 ∷ t) →
+    textLine true text ≡ line 1 (pairBytes (drop 5 (characters text)))
+unfolding textLine
+line-plus text s t h e = rw (le-ltb (length (characters text)) 5 h, e, plus-bad s t)
 
 -- by its first characters
 module _ (text : List ℕ) (h : Head) (p : HeadOf text h) where

@@ -3,8 +3,8 @@ use borrow.Author.Needs.{needs}
 use Rattle.hex.proofs.hex_pair.Statement.{statement}
 use Rattle.hex.proofs.hex_pair.Tie as tie
 
-leading-digit-requires : tie.Need-leading-digit-requires
-leading-digit-requires c κs = search needs
+hex-digit-requires : tie.Need-hex-digit-requires
+hex-digit-requires c κs = search needs
 
 enum-known-high : tie.Need-enum-known-high
 enum-known-high c = search needs
@@ -13,10 +13,10 @@ enum-told : tie.Need-enum-told
 enum-told c = search needs
 
 returns : tie.Need-returns
-returns c = simp (← c .before .before .leading-digit .ensures, c .enum-told .given .1)
+returns c = simp (← c .before .before .hex-digit .ensures, c .enum-told .given .1)
 
-hex-digit-requires : tie.Need-hex-digit-requires
-hex-digit-requires c κs = search needs
+hex-digit-requires-2 : tie.Need-hex-digit-requires-2
+hex-digit-requires-2 c κs = search needs
 
 enum-known-low : tie.Need-enum-known-low
 enum-known-low c = search needs
@@ -28,7 +28,7 @@ returns-2 : tie.Need-returns-2
 returns-2 c =
     let second = c .before .before in
     let first = second .before .before in
-    simp (← first .before .before .leading-digit .ensures, first .high .given .1, ← second .hex-digit .ensures, c .enum-told2 .given .1)
+    simp (← first .before .before .hex-digit .ensures, first .high .given .1, ← second .hex-digit2 .ensures, c .enum-told2 .given .1)
 
 cast-t7 : tie.Need-cast-t7
 cast-t7 c = search needs
@@ -46,17 +46,17 @@ returns-3 : tie.Need-returns-3
 returns-3 c =
     let second = c .before in
     let first = second .before .before .before .before in
-    simp (← first .before .before .leading-digit .ensures, first .high .given .1, ← second .before .before .hex-digit .ensures, second .low .given .1)
+    simp (← first .before .before .hex-digit .ensures, first .high .given .1, ← second .before .before .hex-digit2 .ensures, second .low .given .1)
 
 pub hex-pair-spec : {M : Type 1} → statement M
 hex-pair-spec =
     tie.close
     (tie.spec
-    leading-digit-requires
+    hex-digit-requires
     enum-known-high
     enum-told
     returns
-    hex-digit-requires
+    hex-digit-requires-2
     enum-known-low
     enum-told-2
     returns-2
