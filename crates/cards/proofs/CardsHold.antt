@@ -5,7 +5,7 @@ use lib.ListN.{replicate}
 use Rattle.wire.specs.Answer.{result, refused, unless}
 use Rattle.wire.specs.Text.{has, high, isSpace, raised}
 use Rattle.hex.specs.Digits.{hexDigit}
-use Rattle.hex.specs.Read.{digit, leading}
+use Rattle.hex.specs.Read.{digit}
 use Rattle.pid.specs.J1979.{j1979}
 use Rattle.pid.specs.Lengths.{mode01Lengths}
 use Rattle.group.specs.Group.{groupBytes}
@@ -32,12 +32,12 @@ use Rattle.cards.specs.Cards.{cards, Hold}
 use Rattle.cards.proofs.ExampleLaws.{_&_}
 
 pub cards-hold : Hold cards
-unfolding has high isSpace raised hexDigit digit leading j1979 mode01Lengths groupBytes lineList valueFormat atKind lineText replyText canonical
+unfolding has high isSpace raised hexDigit digit j1979 mode01Lengths groupBytes lineList valueFormat atKind lineText replyText canonical
     unless byteTaken byteSays bytesSay answerSays replySays queryText textLines textLine replyLines walked answerOrder learnLength framingEffect commandSays querySays
     replyTakes pieceSays finishSays
 cards-hold =
     refl & refl & refl & refl & refl & refl & refl & refl & refl & refl &
-    refl & refl & refl & refl & refl & tt
+    refl & refl & refl & refl & tt
 
 -- card 13: six PIDs pass, seven get 2; byte 128 of a line is stored, the next gets 10
 pub six-pids : querySays 80 (freshClient true true) (replicate 6 0x0C) 0 true .answer ≡ result sent

@@ -7,3 +7,4 @@ pub mod ClientHold
 pub mod LearningHold
 pub mod HostsHold
 pub mod NullsHold
+pub mod PlusHold

@@ -4,7 +4,7 @@ use mathlib.Core.List.{[], _∷_}
 use Rattle.wire.specs.Put.{Put}
 use Rattle.wire.specs.Text.{ascii, isSpace, raised, has, high}
 use Rattle.hex.specs.Digits.{hexDigit}
-use Rattle.hex.specs.Read.{digit, leading}
+use Rattle.hex.specs.Read.{digit}
 use Rattle.query.specs.Query.{queryText}
 use Rattle.reply_lines.specs.Lines.{textLines}
 use Rattle.reply_lines.specs.Decode.{textLine, replyLines, DecodedAs}
@@ -15,10 +15,11 @@ use Rattle.cards.specs.Texts.{texts}
 use Rattle.cards.proofs.ExampleLaws.{_&_}
 
 pub texts-hold : AsExpected texts
-unfolding isSpace raised has high hexDigit digit leading queryText textLines textLine replyLines lineFrom
+unfolding isSpace raised has high hexDigit digit queryText textLines textLine replyLines lineFrom
 texts-hold =
     refl & refl & refl & refl & refl & refl & refl & refl & refl & refl &
-    refl & refl & refl & refl & refl & refl & refl & refl & refl & refl & tt
+    refl & refl & refl & refl & refl & refl & refl & refl & refl & refl &
+    refl & tt
 
 -- `OK` stored from position 1 on, in a buffer of four bytes and in one of two
 pub put-fits : Put (9 ∷ 9 ∷ 9 ∷ 9 ∷ []) 1 (ascii "OK") 3 (9 ∷ 0x4F ∷ 0x4B ∷ 9 ∷ [])

@@ -1,4 +1,4 @@
--- Document 01, "Bench cards": the starred ones, as one list of what the definitions give and what the cards say, in bytes.
+-- Document 01, "Bench cards": the starred ones, as one list of what the definitions give and what the cards say, in bytes. Document 02 §4: "Card 6 becomes no data."
 use mathlib.Core.Bool.{Bool, true, false, cond}
 use mathlib.Core.List.{List, [], _∷_, _++_}
 use mathlib.Core.Path.{_≡_}
@@ -57,8 +57,7 @@ cards =
     card 3 (valuesGiven true "NO DATA\r\r>") [] ∷
     card 4 (valuesGiven true "A12\r\r>") (0x31 ∷ 0x00 ∷ 0x03 ∷ 0x41 ∷ 0x31 ∷ 0x32 ∷ []) ∷
     card 5 (valuesGiven false "41 0C 1A F8 0D 20\r\r>") (0x0C ∷ 0 ∷ 4 ∷ 0x41 ∷ 0x0C ∷ 0x1A ∷ 0xF8 ∷ 0x0D ∷ 0 ∷ 3 ∷ 0x41 ∷ 0x0D ∷ 0x20 ∷ []) ∷
-    card 6 (linesGiven false "+41\r\r>") (0 ∷ 1 ∷ 0x04 ∷ []) ∷
-    card 6 (valuesGiven false "+41\r\r>") [] ∷
+    card 6 (linesGiven false "+41\r\r>") (0 ∷ 0 ∷ []) ∷
     card 7 (replies fresh (line 0 (0x41 ∷ 0x0D ∷ 0x20 ∷ []))) (ascii "41 0D 20\r\n\r\n>") ∷
     card 8 (replies (settingsOf false false false true) (line 0 (0x41 ∷ 0x0D ∷ 0x20 ∷ []))) (ascii "7E803410D20\r\r>") ∷
     card 9 (replies (settingsOf true true true true) (line 0 [])) (ascii "7E8 00 \r\n\r\n>") ∷

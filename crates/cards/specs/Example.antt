@@ -1,4 +1,4 @@
--- Examples with what is expected of them from outside: document 01, the Rust, the ELM327 datasheet or SAE J1979, and never this library.
+-- Examples with what is expected of them from outside: documents 01 and 02, the Rust, the ELM327 datasheet or SAE J1979, and never this library.
 use mathlib.Core.List.{List, [], _∷_}
 use mathlib.Core.Path.{_≡_}
 use Prim.Native.String.{String}

@@ -7,3 +7,4 @@ pub mod Client
 pub mod Learning
 pub mod Hosts
 pub mod Nulls
+pub mod Plus

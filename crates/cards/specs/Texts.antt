@@ -1,4 +1,4 @@
--- Examples of digits, texts and the lines of a reply. Document 01, client_session.rs and server_session.rs; Rust's `from_str_radix`; the ASCII table.
+-- Examples of digits, texts and the lines of a reply. Document 01, client_session.rs and server_session.rs; document 02 §4; the ASCII table.
 use mathlib.Core.Bool.{true, false}
 use mathlib.Core.List.{List, [], _∷_, _++_, map}
 use mathlib.Core.Option.{none, some}
@@ -32,10 +32,11 @@ texts =
     example "tests on texts"
     (same (ascii "ATI") (ascii "ATI") ∷ same (ascii "ATI") (ascii "AT") ∷ begins (ascii "ATI") (ascii "AT") ∷ begins (ascii "A") (ascii "AT") ∷ []) (true ∷ false ∷ true ∷ false ∷ []) ∷
     example "a byte in a text, and bytes of 80 or more" (has 62 (ascii "\r>") ∷ has 62 (ascii "\r") ∷ high (0x7F ∷ []) ∷ high (0x41 ∷ 0x80 ∷ []) ∷ []) (true ∷ false ∷ false ∷ true ∷ []) ∷
-    example "digits" (map digit (ascii "0Af+G")) (digitOf (digits.Digit 0) ∷ digitOf (digits.Digit 10) ∷ digitOf (digits.Digit 15) ∷ digitOf digits.Bad ∷ none ∷ []) ∷
-    example "ids" (map (λ (s : List ℕ). hexNumber s) (ascii "7e8" ∷ ascii "+12" ∷ ascii "7G8" ∷ ascii "++1" ∷ [])) (some 0x7E8 ∷ some 0x012 ∷ none ∷ none ∷ []) ∷
-    example "an id and a pair, good and bad" (hexNumber (ascii "7E8") ∷ hexNumber (ascii "8 0") ∷ hexNumber (ascii "+c") ∷ hexNumber (ascii "c+") ∷ [])
-    (map hexOf (hex.Number 0x7E8 ∷ hex.Bad ∷ hex.Number 0x0C ∷ hex.Bad ∷ [])) ∷
+    example "digits" (map digit (ascii "09AFaf")) (map digitOf (digits.Digit 0 ∷ digits.Digit 9 ∷ digits.Digit 10 ∷ digits.Digit 15 ∷ digits.Digit 10 ∷ digits.Digit 15 ∷ [])) ∷
+    example "signs, and the neighbours of digits, are bad" (map digit (ascii "+-*/:@G`g")) (replicate 9 (digitOf digits.Bad)) ∷
+    example "ids" (map (λ (s : List ℕ). hexNumber s) (ascii "7e8" ∷ ascii "+12" ∷ ascii "7G8" ∷ ascii "++1" ∷ [])) (some 0x7E8 ∷ none ∷ none ∷ none ∷ []) ∷
+    example "an id and a pair, good and bad" (hexNumber (ascii "7E8") ∷ hexNumber (ascii "8 0") ∷ hexNumber (ascii "0c") ∷ hexNumber (ascii "+c") ∷ hexNumber (ascii "c+") ∷ [])
+    (map hexOf (hex.Number 0x7E8 ∷ hex.Bad ∷ hex.Number 0x0C ∷ hex.Bad ∷ hex.Bad ∷ [])) ∷
     example "a bad pair and an odd last digit are skipped" (pairBytes (ascii "1g2A3")) (0x2A ∷ []) ∷
     example "digits written" (hexDigits 3 0x7E8 ++ (hexDigits 3 0x00C ++ (hexByte 0x0C ++ hexBytes (0x41 ∷ 0xAF ∷ [])))) (ascii "7E800C0C41AF") ∷
     example "a query's text with no count, 5, 16 and 255" (map (queryText (0x0C ∷ [])) (map countOf (Any ∷ Given 5 ∷ Given 16 ∷ Given 255 ∷ [])))
