@@ -1,5 +1,5 @@
 //! Cases whose logs are written by hand: document 01's numbers, at their limits from both sides, with what each leaves in the session, and document 02's order of
-//! PIDs and its 00 bytes. No log here is taken from the Rust's answers or from this library's. The state is shown before the first call and after each.
+//! PIDs, its 00 bytes and its pluses. No log here is taken from the Rust's answers or from this library's. The state is shown before the first call and after each.
 use crate::driver::{client, server, Script};
 use crate::every::WORKED;
 use crate::plan::{put_call, put_number, put_text};
@@ -91,15 +91,22 @@ struct Client {
     count: usize,
 }
 
+impl Client {
+    /// With the length of a PID, and its count and 1.
+    fn put_with(&self, log: &mut Vec<u8>, length: usize, count: usize) {
+        log.extend([u8::from(self.framing), self.repeat, self.multi, self.under]);
+        put_text(log, self.last);
+        put_number(log, length);
+        put_number(log, count);
+    }
+}
+
 impl State for Client {
     const SHOWN: &'static [u8] = &[0x0C];
 
     fn put(&self, log: &mut Vec<u8>) {
-        log.extend([u8::from(self.framing), self.repeat, self.multi, self.under]);
-        put_text(log, self.last);
         // The table's length of 0C.
-        put_number(log, 2);
-        put_number(log, self.count);
+        self.put_with(log, 2, self.count);
     }
 }
 
@@ -263,6 +270,13 @@ impl Session<Client> {
         self
     }
 
+    /// The state is shown with another PID than 0C: its length, and its count and 1.
+    fn knows(mut self, pid: u8, length: usize, count: usize) -> Self {
+        self.script.look(client::STATE, &[pid]);
+        self.now.put_with(&mut self.log, length, count);
+        self
+    }
+
     /// A number of the far side: the query or command is over, and the last query forgotten.
     fn failed(self, kind: u8, piece: &[u8], n: u8) -> Self {
         self.call(kind, piece, number(n), |c| (c.under, c.last) = (NOTHING, b""))
@@ -373,8 +387,10 @@ impl Session<Server> {
     }
 }
 
-/// "Six PIDs pass, seven get 2; byte 128 of a line is stored, the next gets 10."
-fn card_13() -> Vec<Written> {
+/// Document 02 §4: "Card 6 becomes no data." Its line without data gives no value, and nothing is learned.
+/// Card 13: "Six PIDs pass, seven get 2; byte 128 of a line is stored, the next gets 10."
+fn cards() -> Vec<Written> {
+    let no_data = fresh(false, false).gives(b"+41\r\r>", &[], 0);
     let seven = [0x0C, 0x0D, 0x05, 0x0F, 0x10, 0x11, 0x2F];
     let pids = fresh(false, true)
         .refused(client::QUERY_PIDS, &seven, 2)
@@ -387,7 +403,7 @@ fn card_13() -> Vec<Written> {
         .call(server::BYTE, b"\n", taken(b"\n"), |_| {})
         .refused(server::BYTE, b"4", 10)
         .ended();
-    vec![pids.case("seven PIDs"), line.case("byte 129")]
+    vec![no_data.case("no data"), pids.case("seven PIDs"), line.case("byte 129")]
 }
 
 fn out_of_turn() -> Vec<Written> {
@@ -882,10 +898,72 @@ fn nulls() -> Vec<Written> {
     ]
 }
 
+/// Document 02 §4: "Pairs and ids with a plus now count as bad hex: the pair is skipped, the id becomes 000", and "lengths, counts and values all rest on the new
+/// reading". A count of 2 is one ECU.
+fn pluses() -> Vec<Written> {
+    let unframed = || fresh(false, false);
+    let framed = || fresh(false, false).framed();
+    // ECU+1 of 7E8 and of 000.
+    let kmh = &[0x0D, 0xE9, 0x0F, 0x03, 0x41, 0x0D, 0x20];
+    let kmh_of_000 = &[0x0D, 0x01, 0x03, 0x41, 0x0D, 0x20];
+    // The pairs after a bad one stay where they are: 1A is the PID.
+    let pair = unframed().gives(b"41+C1AF8\r\r>", &[&[0x1A, 0x00, 0x03, 0x41, 0x1A, 0xF8]], 0).knows(0x1A, 2, 2);
+    // Card 6's characters as data: its one byte is gone.
+    let data = unframed().gives(b"410C+41\r\r>", &[&[0x0C, 0x00, 0x02, 0x41, 0x0C]], 2);
+    // 10 C1 AF.
+    let first = unframed().gives(b"+410C1AF8\r\r>", &[], 0).knows(0x10, 2, 0);
+    let pid = framed().gives(b"7E8 03 41 +D 20\r\r>", &[&[0x20, 0xE9, 0x0F, 0x02, 0x41, 0x20]], 0).knows(0x20, 4, 2).knows(0x0D, 1, 0);
+    let id = framed().gives(b"+12 04 41 0D 20\r\r>", &[kmh_of_000], 0).knows(0x0D, 1, 2);
+    let ids = framed().gives(b"+1203410D20\r+1303410D21\r\r>", &[kmh_of_000, &[0x0D, 0x01, 0x03, 0x41, 0x0D, 0x21]], 0).knows(0x0D, 1, 2);
+    let id_7e8 = framed().gives(b"+E8 03 41 0D 20\r7E8 03 41 0D 20\r\r>", &[kmh_of_000, kmh], 0).knows(0x0D, 1, 3);
+    // "length byte (compared with nothing)"
+    let length = framed().gives(b"7E8 +3 41 0D 20\r\r>", &[kmh], 0).knows(0x0D, 1, 2);
+    // "Under 5 characters: ECU unknown, raw characters as data", and unknown ECUs are not counted.
+    let short = framed().gives(b"A+1\r\r>", &[&[0x2B, 0x00, 0x03, 0x41, 0x2B, 0x31]], 0).knows(0x2B, 4, 0).gives(b"+41\r\r>", &[], 0);
+    // E0 is learned of length 1, which cuts the line to come: 02, whose table length is 2, has what is left.
+    let learned = framed()
+        .start(client::QUERY_PID, &[0xE0], b"01E0\r", QUERY)
+        .call(client::PIECE, b"7E8 05 41 E0 +1 02\r\r>", complete(), |c| (c.under, c.last) = (COMPLETE, b"01E0"))
+        .call(client::FINISH, &[], values(1, &[0xE0, 0xE9, 0x0F, 0x03, 0x41, 0xE0, 0x02]), |c| c.under = NOTHING)
+        .knows(0xE0, 1, 2)
+        .start(client::QUERY_PIDS, &[0xE0, 0x02], b"01E002\r", QUERY)
+        .call(client::PIECE, b"7E8 05 41 E0 01 02 03\r\r>", complete(), |c| (c.under, c.last) = (COMPLETE, b"01E002"));
+    let cut = [0x02, 0xE9, 0x0F, 0x03, 0x41, 0x02, 0x03, 0xE0, 0xE9, 0x0F, 0x03, 0x41, 0xE0, 0x01];
+    let learned = learned.call(client::FINISH, &[], values(2, &cut), |c| (c.under, c.multi) = (NOTHING, YES)).knows(0xE0, 1, 2);
+    // Lines whose lengths agree by the new reading alone, and by the old one alone.
+    let agreed = |session: Session<Client>, reply: &[u8], records: &[u8]| {
+        session
+            .start(client::QUERY_PID, &[0xE0], b"01E0\r", QUERY)
+            .call(client::PIECE, reply, complete(), |c| (c.under, c.last) = (COMPLETE, b"01E0"))
+            .call(client::FINISH, &[], values(2, records), |c| c.under = NOTHING)
+    };
+    let agree = agreed(unframed(), b"41E0+102\r41E003\r\r>", &[0xE0, 0x00, 0x03, 0x41, 0xE0, 0x02, 0xE0, 0x00, 0x03, 0x41, 0xE0, 0x03]).knows(0xE0, 1, 3);
+    let disagree = agreed(unframed(), b"41E0+1\r41E003\r\r>", &[0xE0, 0x00, 0x02, 0x41, 0xE0, 0xE0, 0x00, 0x03, 0x41, 0xE0, 0x03]).knows(0xE0, 256, 3);
+    // A raw command's reply is not read. 00 goes first, and does not part a plus from its digit.
+    let raw = unframed().raw(b"ATI").call(client::PIECE, b"+41\r+4\r\r>+", over(), |c| c.under = NOTHING).so_far(b"+41\r+4\r\r>+");
+    let nulls = unframed().gives(b"410C+\x001F8\r\r>", &[&[0x0C, 0x00, 0x03, 0x41, 0x0C, 0xF8]], 2);
+    vec![
+        pair.case("a pair with a plus"),
+        data.case("card 6's characters as data"),
+        first.case("a plus before 41"),
+        pid.case("a PID with a plus"),
+        id.case("an id with a plus"),
+        ids.case("two ids with a plus"),
+        id_7e8.case("an id with a plus, and 7E8"),
+        length.case("a length byte with a plus"),
+        short.case("framed lines of under 5 characters"),
+        learned.case("a length learned past a plus"),
+        agree.case("lengths that agree without the pair"),
+        disagree.case("lengths that disagree without the pair"),
+        raw.case("a raw command"),
+        nulls.case("a plus, 00 and a digit"),
+    ]
+}
+
 /// The cases, under their headings.
 pub fn by_hand() -> Vec<(&'static str, Vec<Written>)> {
     vec![
-        ("by hand, card 13", card_13()),
+        ("by hand, cards 6 and 13", cards()),
         ("by hand, out of turn (1)", out_of_turn()),
         ("by hand, no PID (2)", no_pid()),
         ("by hand, too long (3)", too_long()),
@@ -900,5 +978,6 @@ pub fn by_hand() -> Vec<(&'static str, Vec<Written>)> {
         ("by hand, the first that applies", order()),
         ("by hand, PIDs in rising order", rising()),
         ("by hand, 00 bytes", nulls()),
+        ("by hand, pluses", pluses()),
     ]
 }

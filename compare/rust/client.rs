@@ -2,7 +2,7 @@
 use crate::driver::{client as kind, empty_store, Driver, Log, Script};
 use crate::plan::{shown, Expected, Plan, Values};
 use crate::shrink::{shorter, Case};
-use crate::stream::{without_nulls, Arrival, End, Event, Stream};
+use crate::stream::{without_nulls, without_plus, Arrival, End, Event, Stream};
 use std::collections::HashMap;
 use std::fmt::Write;
 use std::io;
@@ -22,7 +22,7 @@ pub enum Start {
 #[derive(Clone)]
 pub struct Call {
     pub start: Start,
-    /// The Rust gets the pieces without their 00.
+    /// The Rust gets the pieces without their 00, and in a query with `G` for each plus where hex is read.
     pub arrivals: Vec<Arrival>,
     pub failed_write: Option<usize>,
     /// In a query: the Rattle session is handed another byte for each 00, and the host writes the reply with its 00 to the store before the finish.
@@ -100,6 +100,35 @@ fn state(session: &ClientSession<Stream>, pids: &[u8], text: &mut String) -> Exp
     }
 }
 
+/// What arrived since the last write, with its 00 and its pluses.
+fn last_reply(events: &[Event]) -> Vec<u8> {
+    let mut reply = Vec::new();
+    for event in events {
+        match event {
+            Event::Wrote(_) => reply.clear(),
+            Event::Read(Arrival::Piece(bytes)) | Event::Nulls(bytes) => reply.extend_from_slice(bytes),
+            _ => {}
+        }
+    }
+    reply
+}
+
+/// Document 02 §4: "lengths, counts and values all rest on the new reading". From a reply of this name on they are counted apart.
+const WITH_PLUS: &str = "replies with a plus, which the Rust gets with G";
+
+/// The pluses of a query's reply: where hex is read, and in framed lines of under 5 characters.
+fn seen_pluses(plan: &mut Plan, reply: &[u8], framed: bool, values: &Values) {
+    let given = without_plus(reply, framed);
+    if given != reply {
+        plan.seen.push(WITH_PLUS);
+    }
+    let short = given.split(|byte| *byte == b'\r').filter(|line| !line.contains(&b'>'));
+    plan.seen.extend(repeat_n("pluses in short framed lines", short.flatten().filter(|byte| **byte == b'+').count()));
+    if plan.seen.contains(&WITH_PLUS) {
+        plan.seen.extend(repeat_n("values past a plus", values.values().map(Vec::len).sum()));
+    }
+}
+
 /// What a call brought about, by the session before and after it.
 fn seen(plan: &mut Plan, start: &Start, outcome: &Outcome, events: &[Event], before: &Expected, after: &Expected) {
     plan.seen.push(match (start, outcome) {
@@ -124,12 +153,16 @@ fn seen(plan: &mut Plan, start: &Start, outcome: &Outcome, events: &[Event], bef
     if multi != decided {
         plan.seen.push(if *decided == 1 { "multi-PID support confirmed" } else { "multi-PID support refused" });
     }
+    if let Outcome::Values(values) = outcome {
+        seen_pluses(plan, &last_reply(events), *framing, values);
+    }
+    let past = usize::from(plan.seen.contains(&WITH_PLUS));
     for ((_, (length, count)), (_, (length_after, count_after))) in known.iter().zip(learned) {
         if length != length_after {
-            plan.seen.push("lengths learned");
+            plan.seen.extend(["lengths learned", "lengths learned past a plus"].into_iter().take(1 + past));
         }
         if count != count_after {
-            plan.seen.push("counts learned");
+            plan.seen.extend(["counts learned", "counts learned past a plus"].into_iter().take(1 + past));
         }
     }
 }
@@ -194,8 +227,13 @@ impl ClientCase {
         let mut text = String::new();
         let mut before = state(&session, pids, &mut text);
         for (n, Call { start, arrivals, failed_write, host_writes }) in self.calls.iter().enumerate() {
-            let host_writes = *host_writes && matches!(start, Start::Pid(..) | Start::Pids(..));
-            stream.load(arrivals, *failed_write);
+            let queried = matches!(start, Start::Pid(..) | Start::Pids(..));
+            let host_writes = *host_writes && queried;
+            if queried {
+                stream.load_replies(arrivals, *failed_write, session.server_state().framing());
+            } else {
+                stream.load(arrivals, *failed_write);
+            }
             let outcome = call(&mut session, start);
             let events = stream.events();
             let end = match outcome {
@@ -208,21 +246,18 @@ impl ClientCase {
             before = after.clone();
             started(&mut plan.script, start);
             plan.expected.push((n, answer(events.first(), 64, end)));
-            // Since the last write: what arrived, and how many bytes of it the store has.
-            let mut arrived = Vec::new();
+            // How many bytes of the reply the store has.
             let mut got = 0;
             let mut writes = 0;
             for (i, event) in events.iter().enumerate() {
                 match event {
                     Event::Wrote(_) => {
-                        arrived.clear();
                         got = 0;
                         writes += 1;
                         continue;
                     }
                     Event::WriteFailed(_) => plan.script.call(kind::FAILED_WRITE, &[]),
                     Event::Read(Arrival::Piece(bytes)) | Event::Nulls(bytes) if host_writes => {
-                        arrived.extend_from_slice(bytes);
                         let handed = without_gaps(bytes);
                         append(&mut plan.store, &mut got, &handed);
                         plan.script.call(kind::PIECE, &handed);
@@ -258,6 +293,7 @@ impl ClientCase {
                 }
                 Outcome::Values(values) => {
                     if host_writes {
+                        let arrived = last_reply(&events);
                         plan.seen.extend(repeat_n("bytes of 00 in the store", arrived.len() - without_nulls(&arrived).len()));
                         append(&mut plan.store, &mut 0, &arrived);
                         plan.script.look(kind::WRITE, &arrived);
@@ -274,6 +310,12 @@ impl ClientCase {
             plan.seen.push("sessions with 00");
         }
         plan
+    }
+
+    /// What the last query gives.
+    pub fn values(&self) -> Values {
+        let given = |(_, expected)| if let Expected::Values { values, .. } = expected { Some(values) } else { None };
+        self.plan_of(&[], false).expected.into_iter().rev().find_map(given).expect("a query that is answered")
     }
 
     /// The PIDs that are queried, and those of which something is learned.

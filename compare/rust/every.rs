@@ -1,12 +1,21 @@
 //! Cases that go through every input of a kind: all short texts, all PIDs, every length up to its limit, failures at every point.
 use crate::client::{Call, ClientCase, Start};
+use crate::plan::Values;
 use crate::run::{script, Query, RunCase, FULL_ROOM};
 use crate::server::{put_group, Answer, Line, Own, ServerCase};
+use crate::shrink::Case;
 use crate::stream::Arrival;
 
 /// Takes the cases, one after the other.
 pub trait Take {
     fn client(&mut self, case: ClientCase);
+
+    /// A client session of which a document says what its last query gives, whatever the Rust does.
+    fn client_gives(&mut self, case: ClientCase, values: Values) {
+        assert_eq!(case.values(), values, "another answer than the document's is compared:\n{}", case.show());
+        self.client(case);
+    }
+
     fn server(&mut self, case: ServerCase);
     fn run(&mut self, case: RunCase);
 }
@@ -72,23 +81,55 @@ pub fn short_replies(to: &mut impl Take) {
     });
 }
 
+/// A reply with one value, or without any where it cannot be read.
+fn one_value(read: bool, ecu: u16, data: &[u8]) -> Values {
+    read.then(|| (data[1], vec![(ecu, data.to_vec())])).into_iter().collect()
+}
+
+/// Document 02 §4: "Pairs and ids with a plus now count as bad hex: the pair is skipped, the id becomes 000."
+fn pair(to: &mut impl Take, framed: bool, pair: [u8; 2]) {
+    let start: &[u8] = if framed { b"7E803410D" } else { b"410D" };
+    let case = session(framed, vec![asked(Start::Pid(0x0D, None), &[start, &pair, b"\r>"].concat())]);
+    if !pair.contains(&b'+') {
+        return to.client(case);
+    }
+    // A line that holds a prompt is none.
+    to.client_gives(case, one_value(!pair.contains(&b'>'), if framed { 0x7E9 } else { 0 }, &[0x41, 0x0D]));
+}
+
+fn id(to: &mut impl Take, id: &[u8]) {
+    let case = session(true, vec![asked(Start::Pid(0x0C, None), &[id, b"04410C1AF8\r>"].concat())]);
+    if !id.contains(&b'+') {
+        return to.client(case);
+    }
+    // With fewer characters the id ends in the digits after it, and what is left does not start with 41.
+    let whole = id.len() == 3 && !id.iter().any(|byte| b" \0>".contains(byte)) && !b"\t\n".contains(&id[0]);
+    to.client_gives(case, one_value(whole, 1, &[0x41, 0x0C, 0x1A, 0xF8]));
+}
+
 /// Every pair of bytes where a reply has a pair of digits, and some of three bytes where it has an id.
 pub fn digits(to: &mut impl Take) {
     for first in 0..128 {
         for second in 0..128 {
-            for framed in [false, true] {
-                let mut reply = if framed { b"7E803410D".to_vec() } else { b"410D".to_vec() };
-                reply.extend_from_slice(&[first, second]);
-                reply.extend_from_slice(b"\r>");
-                to.client(session(framed, vec![asked(Start::Pid(0x0D, None), &reply)]));
-            }
+            pair(to, false, [first, second]);
+            pair(to, true, [first, second]);
         }
     }
-    texts(b"/09:@AFG`afg+- \t\n\0>z", 3, &mut |text| {
-        let mut reply = text.to_vec();
-        reply.extend_from_slice(b"04410C1AF8\r>");
-        to.client(session(true, vec![asked(Start::Pid(0x0C, None), &reply)]));
-    });
+    texts(b"/09:@AFG`afg+- \t\n\0>z", 3, &mut |text| id(to, text));
+}
+
+/// A plus in the place of each one and each two characters of a reply that a length and counts are learned from, also after a refused repeat; a query that uses them;
+/// and a raw command with the same reply.
+pub fn pluses(to: &mut impl Take) {
+    for (framed, text) in [(false, b"41E00102\r41E003040D20\r\r>" as &[u8]), (true, b"7E8 04 41 E0 01 02\r7E904 41E00304\rA12\r\tA 1 2\n\r\r>")] {
+        for (first, second) in (0..text.len()).flat_map(|first| (first..text.len()).map(move |second| (first, second))) {
+            let mut reply = text.to_vec();
+            (reply[first], reply[second]) = (b'+', b'+');
+            let learned = |refused: &[u8]| call(Start::Pid(0xE0, None), [split(refused, 2), split(&reply, 7)].concat());
+            let used = asked(Start::Pids(vec![0xE0, 0x02], None), if framed { b"7E805 41E0010203\r\r>" } else { b"41E0010203\r\r>" });
+            to.client(session(framed, vec![learned(b""), learned(b"?+\r>"), used, asked(Start::Command(b"ATI".to_vec()), &reply)]));
+        }
+    }
 }
 
 /// Every PID, with two lines of each two lengths, and the query once more.
@@ -510,6 +551,7 @@ pub fn every(to: &mut impl Take) {
     server_lengths(to);
     commands(to);
     digits(to);
+    pluses(to);
     every_pid(to);
     short_replies(to);
     runs(to);

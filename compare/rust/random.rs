@@ -13,9 +13,9 @@ const UNKNOWN: [u8; 6] = [0x66, 0x7F, 0x81, 0xA1, 0xFE, 0xFF];
 /// Bytes that a reader of replies or of lines treats in some way of its own, and neighbours of theirs.
 const SPECIAL: &[u8] = b"\0\x01\x08\t\n\x0b\x0c\r\x0e\x1b\x1f !+-/09:>?@AFGZ[`afgz{\x7f";
 
-const TEXTS: [&str; 16] = [
+const TEXTS: [&str; 19] = [
     "NO DATA", "SEARCHING...", "?", "STOPPED", "UNABLE TO CONNECT", "A12", "+41", "41", "4", "7F 01 12", "BUS INIT: OK", "CAN ERROR", "OK",
-    "41 +C 1A", "+E8 04 41 0C", "ELM327 v1.5",
+    "41 +C 1A", "+E8 04 41 0C", "A+1", "A+", "A + 1", "ELM327 v1.5",
 ];
 
 fn byte(rng: &mut Rng) -> u8 {
@@ -56,6 +56,8 @@ struct Style {
     ending: &'static [u8],
     /// The length of every PID outside the table.
     unknown: usize,
+    /// Some of the characters arrive as a plus.
+    bad_contact: bool,
 }
 
 /// Mostly a style that fits the session's framing.
@@ -66,6 +68,7 @@ fn style(rng: &mut Rng, framed: bool) -> Style {
         lower: rng.chance(15),
         ending: *rng.pick(&[b"\r" as &[u8], b"\r", b"\r", b"\r\n", b"\n\r", b"\r\r", b" \r", b"\t\r"]),
         unknown: rng.below(7),
+        bad_contact: rng.chance(15),
     }
 }
 
@@ -148,6 +151,9 @@ fn reply(rng: &mut Rng, style: &Style, pids: &[u8]) -> Vec<u8> {
     }
     if rng.chance(25) {
         damage(rng, &mut text);
+    }
+    if style.bad_contact {
+        text.iter_mut().filter(|byte| byte.is_ascii_hexdigit() && rng.chance(5)).for_each(|byte| *byte = b'+');
     }
     if rng.chance(80) {
         text.extend_from_slice(style.ending);

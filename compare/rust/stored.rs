@@ -154,7 +154,8 @@ enum Card {
     Server(ServerCase),
 }
 
-/// The thirteen cards, with their numbers and their stars. Of card 13 the Rust has the halves that pass: it gives no 2 and no 10, which stand in `by_hand`.
+/// The cards, with their numbers and their stars. Card 6 is no data by document 02 §4, and 04 to the Rust: it stands in `by_hand`. Of card 13 the Rust has the halves
+/// that pass: it gives no 2 and no 10, which stand there too.
 fn cards() -> Vec<(u8, bool, Card)> {
     const STARRED: bool = true;
     const PLAIN: bool = false;
@@ -168,7 +169,6 @@ fn cards() -> Vec<(u8, bool, Card)> {
         (3, STARRED, reply(true, "NO DATA")),
         (4, STARRED, reply(true, "A12")),
         (5, STARRED, Card::Client(session(false, values))),
-        (6, STARRED, reply(false, "+41")),
         (7, STARRED, answered(b"010D\r", vec![(None, vec![0x41, 0x0D, 0x20])])),
         (8, STARRED, answered(b"ATE0\rATL0\rATS0\rATH1\r010D\r", vec![(None, vec![0x41, 0x0D, 0x20])])),
         (9, STARRED, answered(b"ATH1\r010D\r", vec![(None, Vec::new())])),
@@ -466,6 +466,8 @@ pub fn stored() -> Store {
     every::digits(&mut to);
     to.head("tabs, LF, 00, + and bytes after the prompt", 1, 500);
     replies(&mut to);
+    to.head("+ at every place of a reply", 131, 500);
+    every::pluses(&mut to);
     to.head("every PID", 1201, 500);
     every::every_pid(&mut to);
     to.head("lengths and counts learned", 1, 900);

@@ -21,7 +21,7 @@ pub enum Event {
     Wrote(Vec<u8>),
     /// A write of these bytes failed.
     WriteFailed(Vec<u8>),
-    /// What a read was to give, with its 00.
+    /// What a read was to give, with its 00 and its pluses.
     Read(Arrival),
     /// A piece of 00 alone, which the read passed over.
     Nulls(Vec<u8>),
@@ -38,6 +38,8 @@ pub enum End {
 
 struct Wire {
     arrivals: VecDeque<Arrival>,
+    /// The bytes of the pieces among them, as the session gets them but for 00.
+    given: VecDeque<u8>,
     end: End,
     /// How many writes go well before one fails.
     failed_write: Option<usize>,
@@ -54,6 +56,7 @@ impl Stream {
     pub fn new(end: End) -> Self {
         Stream(Rc::new(RefCell::new(Wire {
             arrivals: VecDeque::new(),
+            given: VecDeque::new(),
             end,
             failed_write: None,
             events: Vec::new(),
@@ -65,7 +68,15 @@ impl Stream {
     pub fn load(&self, arrivals: &[Arrival], failed_write: Option<usize>) {
         let mut wire = self.0.borrow_mut();
         wire.arrivals = arrivals.iter().cloned().collect();
+        wire.given = bytes(arrivals).into();
         wire.failed_write = failed_write;
+    }
+
+    /// The same for a query, whose replies the Rust gets by `without_plus`. A reply goes on to the first piece that holds a prompt, later bytes included.
+    pub fn load_replies(&self, arrivals: &[Arrival], failed_write: Option<usize>, framed: bool) {
+        self.load(arrivals, failed_write);
+        let replies = arrivals.split_inclusive(|arrival| matches!(arrival, Arrival::Piece(bytes) if bytes.contains(&b'>')));
+        self.0.borrow_mut().given = replies.flat_map(|reply| without_plus(&bytes(reply), framed)).collect();
     }
 
     /// What happened since this was last asked for.
@@ -97,6 +108,32 @@ impl Stream {
         };
         left.iter().map_while(nulls).collect()
     }
+}
+
+/// The bytes of the pieces, joined.
+fn bytes(arrivals: &[Arrival]) -> Vec<u8> {
+    let pieces = arrivals.iter().filter_map(|arrival| if let Arrival::Piece(bytes) = arrival { Some(&bytes[..]) } else { None });
+    pieces.collect::<Vec<_>>().concat()
+}
+
+/// A query's reply as the Rust gets it. Document 02 §4: "Pairs and ids with a plus now count as bad hex", and "the Rust is compared in sessions up to their first reply
+/// with a plus". From that reply on it gets `G`, which is bad hex to it too, for each plus where hex is read, and stays compared.
+pub fn without_plus(reply: &[u8], framed: bool) -> Vec<u8> {
+    let mut given = reply.to_vec();
+    for line in given.split_mut(|byte| *byte == b'\r') {
+        if is_hex(line, framed) {
+            line.iter_mut().filter(|byte| **byte == b'+').for_each(|byte| *byte = b'G');
+        }
+    }
+    given
+}
+
+/// Whether hex is read in a line: not where it holds a prompt, nor, framed, where under 5 characters are left of it, which are its data as they are.
+fn is_hex(line: &[u8], framed: bool) -> bool {
+    let line = without_nulls(line);
+    let trimmed = String::from_utf8_lossy(&line);
+    let size = trimmed.trim().bytes().filter(|byte| *byte != b' ').count();
+    !line.contains(&b'>') && (!framed || 5 <= size)
 }
 
 pub fn without_nulls(bytes: &[u8]) -> Vec<u8> {
@@ -131,11 +168,14 @@ impl Read for Stream {
                         let rest = bytes.split_off(buffer.len());
                         wire.arrivals.push_front(Arrival::Piece(rest));
                     }
+                    let mut given: Vec<u8> = wire.given.drain(..bytes.len()).collect();
                     if wire.end == End::Client && is_nulls(&bytes) {
                         wire.events.push(Event::Nulls(bytes));
                         continue;
                     }
-                    let given = if wire.end == End::Client { without_nulls(&bytes) } else { bytes.clone() };
+                    if wire.end == End::Client {
+                        given = without_nulls(&given);
+                    }
                     let n = given.len();
                     buffer[..n].copy_from_slice(&given);
                     wire.taken += n;
