@@ -930,7 +930,7 @@ fn pluses() -> Vec<Written> {
         .call(client::PIECE, b"7E8 05 41 E0 01 02 03\r\r>", complete(), |c| (c.under, c.last) = (COMPLETE, b"01E002"));
     let cut = [0x02, 0xE9, 0x0F, 0x03, 0x41, 0x02, 0x03, 0xE0, 0xE9, 0x0F, 0x03, 0x41, 0xE0, 0x01];
     let learned = learned.call(client::FINISH, &[], values(2, &cut), |c| (c.under, c.multi) = (NOTHING, YES)).knows(0xE0, 1, 2);
-    // Lines whose lengths agree by the new reading alone, and by the old one alone.
+    // Lines whose lengths agree by document 02's reading alone, and by document 01's alone.
     let agreed = |session: Session<Client>, reply: &[u8], records: &[u8]| {
         session
             .start(client::QUERY_PID, &[0xE0], b"01E0\r", QUERY)

@@ -113,7 +113,7 @@ fn last_reply(events: &[Event]) -> Vec<u8> {
     reply
 }
 
-/// Document 02 §4: "lengths, counts and values all rest on the new reading". From a reply of this name on they are counted apart.
+/// Document 02 §4: "lengths, counts and values all rest on the new reading". From the first reply that is counted under this name on they are counted apart.
 const WITH_PLUS: &str = "replies with a plus, which the Rust gets with G";
 
 /// The pluses of a query's reply: where hex is read, and in framed lines of under 5 characters.

@@ -1,4 +1,4 @@
--- Examples of replies with a plus. Document 02 §4; what is expected follows from the sentences of documents 01 and 02, and from the lengths of 02, 0C, 0D, 1A and 20.
+-- Examples of replies with a plus. Document 02 §4; what is expected follows from the sentences of documents 01 and 02, and from the lengths of 0C, 0D, 1A and 2B.
 use mathlib.Core.Bool.{Bool, true, false}
 use mathlib.Core.List.{List, [], _∷_, map}
 use mathlib.Core.Option.{some}
@@ -46,7 +46,9 @@ pluses =
     ((line 0 (0x41 ∷ 0x2B ∷ 0x31 ∷ []) ∷ []) ∷ (line 0 (0x2B ∷ 0x34 ∷ 0x31 ∷ []) ∷ []) ∷ (line 0 (0x2B ∷ 0x2B ∷ 0x2B ∷ 0x2B ∷ []) ∷ []) ∷ (line 1 [] ∷ []) ∷ []) ∷
     example "unframed `41+C1AF8`: a value of 1A" (asked new 0x0C "41+C1AF8\r\r>" .text) (0x1A ∷ 0x00 ∷ 0x03 ∷ 0x41 ∷ 0x1A ∷ 0xF8 ∷ []) ∷
     example "`+1 41 0D 20`: without its first pair it starts with 41" (asked new 0x0D "+1 41 0D 20\r\r>" .text) (0x0D ∷ 0x00 ∷ 0x03 ∷ 0x41 ∷ 0x0D ∷ 0x20 ∷ []) ∷
-    example "framed `+12 04 41 0D 20`: 0D of the ECU 000" (asked framed 0x0D "+12 04 41 0D 20\r\r>" .text) (0x0D ∷ 0x01 ∷ 0x03 ∷ 0x41 ∷ 0x0D ∷ 0x20 ∷ []) ∷
+    example "framed `+12 04 41 0D 20` and `+E8 03 41 0D 20`: 0D of the ECU 000"
+    (map (λ (t : String). asked framed 0x0D t .text) ("+12 04 41 0D 20\r\r>" ∷ "+E8 03 41 0D 20\r\r>" ∷ []))
+    ((0x0D ∷ 0x01 ∷ 0x03 ∷ 0x41 ∷ 0x0D ∷ 0x20 ∷ []) ∷ (0x0D ∷ 0x01 ∷ 0x03 ∷ 0x41 ∷ 0x0D ∷ 0x20 ∷ []) ∷ []) ∷
     example "`7E8 03 41 +D 20`: 20 without data" (asked framed 0x0D "7E8 03 41 +D 20\r\r>" .text) (0x20 ∷ 0xE9 ∷ 0x0F ∷ 0x02 ∷ 0x41 ∷ 0x20 ∷ []) ∷
     example "`A+1`: 2B" (asked framed 0x0D "A+1\r\r>" .text) (0x2B ∷ 0x00 ∷ 0x03 ∷ 0x41 ∷ 0x2B ∷ 0x31 ∷ []) ∷
     example "a length learned past a plus: 1" (lengthIn (learned .next .server .«pid_lengths») 0xE0) (some 1) ∷
