@@ -6,5 +6,6 @@ pub mod OrderLaws
 pub mod LineLaws
 pub mod SizeLaws
 pub mod ReadLaws
+pub mod TallyLaws
 pub mod PlaceLaws
 pub mod LearnLaws

@@ -4,14 +4,14 @@ use mathlib.Core.Bool.{Bool}
 use mathlib.Core.List.{List, [], _∷_, map}
 use Prim.Native.Nat.{ℕ, _+_, _*_, _≤_, _<_}
 use native.Mathlib.Omega.{arith}
-use lib.ListN.{length, take}
-use lib.Seq.{sets, take-all, length-take-le}
+use lib.ListN.{length, take, set, length-set}
+use lib.Seq.{sets}
 use borrow.Author.Tests.{lt-ltb, le-ltb}
 use Rattle.wire.specs.Answer.{result, refused, unless}
-use Rattle.wire.specs.Put.{Put}
 use Rattle.wire.specs.Text.{withoutNulls}
-use Rattle.wire.proofs.PutLaws.{put-length, put-whole, put-front}
+use Rattle.wire.proofs.PutLaws.{put-whole}
 use Rattle.value.specs.Values.{Value, valuesBytes}
+use Rattle.value.proofs.RecordLaws.{ValuesFit}
 use Rattle.reply_lines.specs.Lines.{textLines}
 use Rattle.reply_lines.specs.Decode.{textLine, replyLines}
 use Rattle.reply_lines.proofs.DecodeLaws.{line-ecu}
@@ -21,10 +21,12 @@ use Rattle.server_state.specs.declared.FeatureSupport.{FeatureSupport}
 use Rattle.server_state.specs.declared.ServerState.{ServerState}
 use Rattle.reply_values.specs.Learn.{lengthsAfter, learnCounts, multiAfter}
 use Rattle.reply_values.specs.Read.{Reading, reading, ReadServed, readReply}
-use Rattle.reply_values.specs.Steps.{valuesIn}
-use Rattle.reply_values.proofs.InLaws.{values-in}
-use Rattle.reply_values.proofs.OrderLaws.{order-count, order-size}
+use Rattle.reply_values.specs.declared.Tally.{Tally}
+use Rattle.reply_values.specs.Steps.{valuesIn, noValues, PutValues, Storing}
+use Rattle.reply_values.proofs.InLaws.{values-known}
+use Rattle.reply_values.proofs.OrderLaws.{order-size, order-fit}
 use Rattle.reply_values.proofs.SizeLaws.{reply-size}
+use Rattle.reply_values.proofs.TallyLaws.{tallied-none, stand-all, tallied-all, starts-none}
 use Rattle.reply_values.proofs.WalkLaws.{KnownEcus, values-fit}
 
 -- The whole
@@ -41,32 +43,35 @@ reply-known framing reply = known (textLines reply) where
 pub reading-without-nulls : (s : ServerState) (pids : List ℕ) (several : Bool) (reply : List ℕ) → reading s pids several (withoutNulls reply) ≡ reading s pids several reply
 reading-without-nulls s pids several reply = rw (reply-without-nulls (s .framing) reply)
 
--- the values of a text of at most 4,096 bytes, written into a store with three bytes for each of them and three more
-module _ (framing : Bool) (text lengths : List ℕ) (short : length text ≤ 4096) {store left : List ℕ} (room : 3 * length text + 3 ≤ length store) {size : ℕ}
-    (p : Put store 0 (valuesBytes (valuesOf lengths (replyLines framing text))) size left) where
-  fits : 0 + length (valuesBytes (valuesOf lengths (replyLines framing text))) ≤ length store
-  fits = omega (arith, reply-size lengths framing text short)
+-- the values of a text of at most 4,096 bytes in a store with three bytes for each of them and three more
+module _ (framing : Bool) (text lengths : List ℕ) where
+  abbrev given : List Value
+  given = valuesOf lengths (replyLines framing text)
 
-  stored-size : size ≡ length (valuesBytes (valuesOf lengths (replyLines framing text)))
-  stored-size = let e = put-whole p fits in omega arith
+  given-fit : ValuesFit given
+  given-fit = values-fit lengths (replyLines framing text) (reply-known framing text)
 
-  pub stored-inside : size ≤ length left
-  stored-inside = omega (arith, stored-size, fits, put-length p)
+  module _ (short : length text ≤ 4096) (store : List ℕ) (room : 3 * length text + 3 ≤ length store) where
+    fits : length (valuesBytes given) ≤ length store
+    fits = omega (arith, reply-size lengths framing text short)
 
-  stored-front : take size left ≡ valuesBytes (valuesOf lengths (replyLines framing text))
-  stored-front = put-front p ∙ take-all (length store) (valuesBytes (valuesOf lengths (replyLines framing text))) (omega (arith, fits))
+    -- there is room for them
+    pub given-storing : (starts : List ℕ) → length store ≤ 65535 → length store < 5 * length starts → Storing given store (set starts 0 0) noValues
+    given-storing starts small places = record {
+      room = record { tallied = tallied-none store; room = omega (arith, fits) };
+      known = given-fit;
+      begin = starts-none store starts (omega arith);
+      small = small;
+      places = omega (arith, length-set starts 0 0);
+    }
 
-  stored-values : valuesIn (take size left) ≡ valuesOf lengths (replyLines framing text)
-  stored-values = ap valuesIn stored-front ∙ values-in (valuesOf lengths (replyLines framing text)) (values-fit lengths (replyLines framing text) (reply-known framing text))
+    -- they stand there
+    module _ {left : List ℕ} {r : Tally} (q : PutValues given store noValues left r) where
+      stored-size : r .at ≡ length (valuesBytes given)
+      stored-size = let e = put-whole (q .put) (omega (arith, fits)) in omega arith
 
-  pub stored-length : length (take size left) ≡ size
-  stored-length = length-take-le size left stored-inside
-
-  pub stored-few : length (take size left) ≤ 3 * length text + 3
-  stored-few = omega (arith, stored-length, stored-size, reply-size lengths framing text short)
-
-  pub stored-back : take size left ≡ valuesBytes (valuesIn (take size left))
-  stored-back = stored-front ∙ ap valuesBytes (sym stored-values)
+      stored-values : valuesIn (take (r .at) left) ≡ given
+      stored-values = stand-all given-fit fits q
 
 -- what a number comes to, and what is read where none applies
 abbrev unreadFor : ServerState → ℕ → List ℕ → ReadServed
@@ -111,41 +116,42 @@ module _ (s : ServerState) (pids : List ℕ) (several : Bool) where
 
   -- the answer to a query, by what the store holds
   module _ (text : List ℕ) (short : length text ≤ 4096) {after : List ℕ} (learned : after ≡ lengthsAfter several pids (s .«pid_lengths») (replyLines (s .framing) text))
-      {store left : List ℕ} (room : 3 * length text + 3 ≤ length store) {size : ℕ} (p : Put store 0 (valuesBytes (valuesOf after (replyLines (s .framing) text))) size left) where
+      {store left : List ℕ} (room : 3 * length text + 3 ≤ length store) {r : Tally} (q : PutValues (valuesOf after (replyLines (s .framing) text)) store noValues left r) where
     abbrev found : List Value
-    found = valuesIn (take size left)
+    found = valuesIn (take (r .at) left)
 
     same : found ≡ valuesOf after (replyLines (s .framing) text)
-    same = stored-values (s .framing) text after short room p
+    same = stored-values (s .framing) text after short store room q
 
-    found-size : size ≡ length (valuesBytes (answerOrder found))
-    found-size = stored-size (s .framing) text after short room p ∙ ap (λ vs. length (valuesBytes vs)) (sym same) ∙ sym (order-size found)
+    found-size : r .at ≡ length (valuesBytes (answerOrder found))
+    found-size = stored-size (s .framing) text after short store room q ∙ ap (λ vs. length (valuesBytes vs)) (sym same) ∙ sym (order-size found)
 
     read-found : reading s pids several text ≡ readingOf after found
     read-found = ap (λ ls. readingOf ls (valuesOf ls (replyLines (s .framing) text))) (sym learned) ∙ ap (readingOf after) (sym same)
 
-    text-size : length (valuesBytes (reading s pids several text .values)) ≡ size
+    text-size : length (valuesBytes (reading s pids several text .values)) ≡ r .at
     text-size = ap (λ (r : Reading). length (valuesBytes (r .values))) read-found ∙ sym found-size
 
-    pub read-small : {out : List ℕ} → length out < size → unreadFor s 6 out ≡ readReply s pids several text out
+    pub read-small : {out : List ℕ} → length out < r .at → unreadFor s 6 out ≡ readReply s pids several text out
     read-small {out} h = sym (read-full text out short (omega (arith, text-size)))
 
-    pub read-whole : {out o₁ counts : List ℕ} {count written : ℕ} {multi : FeatureSupport} → size ≤ length out → count ≡ length found →
+    pub read-whole : {out o₁ counts : List ℕ} {tally : Tally} {multi : FeatureSupport} → r .at ≤ length out →
         counts ≡ learnCounts (s .framing) 0 (s .«ecu_counts») found → multi ≡ multiAfter several pids found (s .«multi_pid») →
-        Put out 0 (valuesBytes (answerOrder found)) written o₁ →
+        PutValues (answerOrder found) out noValues o₁ tally →
         record {
-          answer = result count;
-          written = written;
+          answer = result (tally .count);
+          written = tally .at;
           server = record { framing = s .framing; repeat = s .repeat; «multi_pid» = multi; «pid_lengths» = after; «ecu_counts» = counts };
           out = o₁;
         } ≡ readReply s pids several text out
-    read-whole {out} {o₁} {counts} {count} {written} {multi} h c l m w =
-        let all : written ≡ length (valuesBytes (answerOrder found)) = let e = put-whole w (omega (arith, found-size)) in omega arith in
-        let many : count ≡ length (answerOrder found) = c ∙ sym (order-count found) in
+    read-whole {out} {o₁} {counts} {tally} {multi} h l m w =
+        let fit : length (valuesBytes (answerOrder found)) ≤ length out = omega (arith, found-size) in
+        let many : tally .count ≡ length (answerOrder found) = tallied-all (order-fit found (values-known (take (r .at) left))) fit w in
+        let all : tally .at ≡ length (valuesBytes (answerOrder found)) = let e = put-whole (w .put) (omega arith) in omega arith in
         (λ i. record {
           answer = result (many i);
           written = all i;
           server = record { framing = s .framing; repeat = s .repeat; «multi_pid» = m i; «pid_lengths» = after; «ecu_counts» = l i };
-          out = w .bytes i;
+          out = w .put .bytes i;
         })
         ∙ sym (read-fits text out short (omega (arith, text-size)) ∙ ap (λ (r : Reading). wholeOf r out) read-found)

@@ -9,9 +9,7 @@ use lib.Dec.{eqb}
 use lib.ListN.{length, take, drop, getD, length-drop, drop-of-length-le}
 use lib.Seq.{drop-cons, drop-drop, take-all}
 use borrow.Author.Tests.{eq-eqb, ne-eqb}
-use Rattle.wire.specs.Put.{Put}
 use Rattle.wire.proofs.Cases.{by-test}
-use Rattle.wire.proofs.PutLaws.{put-none, put-rest, put-nil}
 use Rattle.pid.specs.Lengths.{lengthIn}
 use Rattle.line_list.specs.Lines.{Line}
 use Rattle.value.specs.Values.{Value, value, valueFormat, valuesBytes}
@@ -60,17 +58,12 @@ module _ (lengths : List ℕ) (e : ℕ) (s : List ℕ) (i : ℕ) where
   pub walked-end : length s ≤ i → walked lengths e (drop i s) ≡ []
   walked-end h = rw (drop-of-length-le s h) (walked-nil lengths e)
 
-  -- the turn and the end of the loop that writes them, where a value's data is the part from i + 1 to i + 1 + n
-  pub walked-turn : {out o₁ left : List ℕ} {at a r : ℕ} (n : ℕ) → i < length s → n ≡ spanOf (lengthIn lengths (getD s i 0)) (length s - (i + 1)) →
-      Put out at (valuesBytes (walked lengths e (drop i s))) r left →
-      Put out at (valueFormat .write (value (getD s i 0) e (take (i + 1 + n - (i + 1)) (drop (i + 1) s)))) a o₁ →
-      Put o₁ a (valuesBytes (walked lengths e (drop (i + 1 + n) s))) r left
-  walked-turn n h q p w =
+  -- the first of them, whose data is the part from i + 1 to i + 1 + n, and the others
+  pub walked-split : (n : ℕ) → i < length s → n ≡ spanOf (lengthIn lengths (getD s i 0)) (length s - (i + 1)) →
+      walked lengths e (drop i s) ≡ (value (getD s i 0) e (take (i + 1 + n - (i + 1)) (drop (i + 1) s)) ∷ []) ++ walked lengths e (drop (i + 1 + n) s)
+  walked-split n h q =
       let same : i + 1 + n - (i + 1) ≡ n = omega arith in
-      put-rest (rw (walked-here n h q) at p) (rw same at w)
-
-  pub walked-done : {out left : List ℕ} {at r : ℕ} → length s ≤ i → Put out at (valuesBytes (walked lengths e (drop i s))) r left → (r ≡ at) × (left ≡ out)
-  walked-done h p = put-nil (rw (walked-end h) at p)
+      rw same (walked-here n h q)
 
   pub walked-fits : (n : ℕ) → i < length s → n ≡ spanOf (lengthIn lengths (getD s i 0)) (length s - (i + 1)) → i + 1 + n ≤ length s
   walked-fits n h q = omega (arith, span-within (lengthIn lengths (getD s i 0)) (length s - (i + 1)))
@@ -87,18 +80,6 @@ line-other lengths e (m ∷ s) h = rw (ne-eqb m 0x41 h)
 pub line-walked : (lengths : List ℕ) (e : ℕ) (l : List ℕ) → getD l 0 0 ≡ 0x41 → lineValues lengths e l ≡ walked lengths e (take (length l - 1) (drop 1 l))
 line-walked lengths e [] h = absurd (omega arith)
 line-walked lengths e (m ∷ s) h = rw (eq-eqb m 0x41 h, take-all (suc (length s) - 1) s (omega arith))
-
--- so much is written of it
-module _ (lengths : List ℕ) (e : ℕ) (l : List ℕ) {out : List ℕ} {at : ℕ} where
-  pub put-line-none : length l ≡ 0 → Put out at (valuesBytes (lineValues lengths e l)) at out
-  put-line-none h = rw (line-none lengths e l h) (put-none out at)
-
-  pub put-line-other : (getD l 0 0 ≡ 0x41 → ⊥) → Put out at (valuesBytes (lineValues lengths e l)) at out
-  put-line-other h = rw (line-other lengths e l h) (put-none out at)
-
-  pub put-line-walked : {left : List ℕ} {r : ℕ} → getD l 0 0 ≡ 0x41 → Put out at (valuesBytes (walked lengths e (take (length l - 1) (drop 1 l)))) r left →
-      Put out at (valuesBytes (lineValues lengths e l)) r left
-  put-line-walked h p = rw (line-walked lengths e l h) p
 
 -- the values of some lines and then of others, written and not
 pub values-append : (lengths : List ℕ) (ls ms : List Line) → valuesOf lengths (ls ++ ms) ≡ valuesOf lengths ls ++ valuesOf lengths ms
