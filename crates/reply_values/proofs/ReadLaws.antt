@@ -58,8 +58,8 @@ module _ (framing : Bool) (text lengths : List ℕ) where
     -- there is room for them
     pub given-storing : (starts : List ℕ) → length store ≤ 65535 → length store < 5 * length starts → Storing given store (set starts 0 0) noValues
     given-storing starts small places = record {
-      room = record { tallied = tallied-none store; room = omega (arith, fits) };
-      known = given-fit;
+      ready = record { tallied = tallied-none store; room = omega (arith, fits) };
+      ecus = given-fit;
       begin = starts-none store starts (omega arith);
       small = small;
       places = omega (arith, length-set starts 0 0);

@@ -81,13 +81,7 @@ pub line-walked : (lengths : List ℕ) (e : ℕ) (l : List ℕ) → getD l 0 0 �
 line-walked lengths e [] h = absurd (omega arith)
 line-walked lengths e (m ∷ s) h = rw (eq-eqb m 0x41 h, take-all (suc (length s) - 1) s (omega arith))
 
--- the values of some lines and then of others, written and not
-pub values-append : (lengths : List ℕ) (ls ms : List Line) → valuesOf lengths (ls ++ ms) ≡ valuesOf lengths ls ++ valuesOf lengths ms
-values-append lengths [] ms = refl
-values-append lengths (l ∷ ls) ms =
-    ap (λ vs. lineValues lengths (l .ecu) (l .bytes) ++ vs) (values-append lengths ls ms)
-    ∙ sym (append-assoc (lineValues lengths (l .ecu) (l .bytes)) (valuesOf lengths ls) (valuesOf lengths ms))
-
+-- values as they are written, and then others
 pub bytes-append : (vs ws : List Value) → valuesBytes (vs ++ ws) ≡ valuesBytes vs ++ valuesBytes ws
 bytes-append [] ws = refl
 bytes-append (v ∷ vs) ws = ap (λ s. valueFormat .write v ++ s) (bytes-append vs ws) ∙ sym (append-assoc (valueFormat .write v) (valuesBytes vs) (valuesBytes ws))
