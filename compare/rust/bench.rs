@@ -206,11 +206,13 @@ pub fn bench() {
         let short = reply(framed, false, 1, 1, many);
         let usual = reply(framed, true, 2, 2, many);
         let full = reply(framed, true, 8, many, 4096);
+        let single = reply(framed, false, 8, many, 4096);
         let falling = falling(framed);
         for (name, start, text) in [
             ("short", Start::Pid(0x0C, None), &short),
             ("usual", Start::Pids(six.clone(), None), &usual),
             ("full", Start::Pids(six.clone(), None), &full),
+            ("one-PID", Start::Pid(0x0C, None), &single),
             ("falling", Start::Pids(six.clone(), None), &falling),
         ] {
             let query = times(client_pair(framed, start, text, 128));

@@ -48,7 +48,7 @@ span-within o left = omega arith
 
 -- the values from position i on: one with n data bytes, and the end
 module _ (lengths : List ℕ) (e : ℕ) (s : List ℕ) (i : ℕ) where
-  pub walked-here : (n : ℕ) → i < length s → n ≡ spanOf (lengthIn lengths (getD s i 0)) (length s - (i + 1)) →
+  walked-here : (n : ℕ) → i < length s → n ≡ spanOf (lengthIn lengths (getD s i 0)) (length s - (i + 1)) →
       walked lengths e (drop i s) ≡ value (getD s i 0) e (take n (drop (i + 1) s)) ∷ walked lengths e (drop (i + 1 + n) s)
   walked-here n h q =
       let left : length (drop (suc i) s) ≡ length s - (i + 1) = omega (arith, length-drop (suc i) s) in
