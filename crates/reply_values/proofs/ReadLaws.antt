@@ -45,33 +45,33 @@ reading-without-nulls s pids several reply = rw (reply-without-nulls (s .framing
 
 -- the values of a text of at most 4,096 bytes in a store with three bytes for each of them and three more
 module _ (framing : Bool) (text lengths : List ℕ) where
-  abbrev given : List Value
-  given = valuesOf lengths (replyLines framing text)
+  abbrev textValues : List Value
+  textValues = valuesOf lengths (replyLines framing text)
 
-  given-fit : ValuesFit given
-  given-fit = values-fit lengths (replyLines framing text) (reply-known framing text)
+  text-fit : ValuesFit textValues
+  text-fit = values-fit lengths (replyLines framing text) (reply-known framing text)
 
   module _ (short : length text ≤ 4096) (store : List ℕ) (room : 3 * length text + 3 ≤ length store) where
-    fits : length (valuesBytes given) ≤ length store
+    fits : length (valuesBytes textValues) ≤ length store
     fits = omega (arith, reply-size lengths framing text short)
 
     -- there is room for them
-    pub given-storing : (starts : List ℕ) → length store ≤ 65535 → length store < 5 * length starts → Storing given store (set starts 0 0) noValues
-    given-storing starts small places = record {
+    pub text-storing : (starts : List ℕ) → length store ≤ 65535 → length store < 5 * length starts → Storing textValues store (set starts 0 0) noValues
+    text-storing starts small places = record {
       ready = record { tallied = tallied-none store; room = omega (arith, fits) };
-      ecus = given-fit;
+      ecus = text-fit;
       begin = starts-none store starts (omega arith);
       small = small;
       places = omega (arith, length-set starts 0 0);
     }
 
     -- they stand there
-    module _ {left : List ℕ} {r : Tally} (q : PutValues given store noValues left r) where
-      stored-size : r .at ≡ length (valuesBytes given)
+    module _ {left : List ℕ} {r : Tally} (q : PutValues textValues store noValues left r) where
+      stored-size : r .at ≡ length (valuesBytes textValues)
       stored-size = let e = put-whole (q .put) (omega (arith, fits)) in omega arith
 
-      stored-values : valuesIn (take (r .at) left) ≡ given
-      stored-values = stand-all given-fit fits q
+      stored-values : valuesIn (take (r .at) left) ≡ textValues
+      stored-values = stand-all text-fit fits q
 
 -- what a number comes to, and what is read where none applies
 abbrev unreadFor : ServerState → ℕ → List ℕ → ReadServed
