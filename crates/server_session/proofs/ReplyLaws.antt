@@ -4,17 +4,16 @@ use mathlib.Core.Bool.{Bool, true, false, cond}
 use mathlib.Core.List.{List, [], _∷_}
 use Prim.Native.Nat.{ℕ, _+_, _≤_}
 use native.Mathlib.Omega.{arith}
-use lib.Dec.{eqb, ltb}
+use lib.Dec.{ltb}
 use lib.ListN.{length, length-append}
-use borrow.Author.Tests.{eqb-true, eqb-false, le-ltb, ltb-false}
+use borrow.Author.Tests.{le-ltb, ltb-false}
 use Rattle.wire.specs.Answer.{unless}
 use Rattle.wire.specs.declared.Refusal.{Refusal}
 use Rattle.wire.specs.declared.Count.the-variants.{Is, Refused}
 use Rattle.wire.proofs.UnlessLaws.{unless-by}
-use Rattle.wire.proofs.Cases.{by-test, or-none}
-use Rattle.group.specs.Group.{got, isMalformed, listOf}
-use Rattle.line_list.specs.Lines.{Line, lineList, lineFormat}
-use Rattle.group.proofs.WalkLaws.{left-end}
+use Rattle.wire.proofs.Cases.{or-none}
+use Rattle.group.specs.Group.{isMalformed, listOf}
+use Rattle.line_list.specs.Lines.{Line, lineList}
 use Rattle.wire.specs.Put.{Put, countWritten}
 use Rattle.wire.specs.Text.{ascii}
 use Rattle.wire.proofs.PutLaws.{put-whole}
@@ -28,14 +27,13 @@ use Rattle.reply.specs.Shape.{chipReply}
 use Rattle.reply.specs.Reply.{replyText}
 use Rattle.reply.specs.Answers as R
 use Rattle.reply.proofs.AnswerLaws.{refused-out, refused-same, replied-rows, written-told}
-use Rattle.reply.proofs.TextLaws.{no-lines}
 use Rattle.server_session.specs.declared.Phase.the-variants.{Reading}
 use Rattle.server_session.specs.declared.ServerAnswer.the-variants as answer
 use Rattle.server_session.specs.declared.ServerSession.{ServerSession}
 use Rattle.server_session.specs.declared.ServerStep.{ServerStep}
 use Rattle.server_session.specs.Session.{Session, session}
 use Rattle.server_session.specs.Call.{ServerSaid, serverRefusing, ServerServed, serverStep, serverLent}
-use Rattle.server_session.specs.Replies.{lineAwaited, atAnswered, answerSays, isObd, lastAfter, replySays, rejectSays}
+use Rattle.server_session.specs.Replies.{lineAwaited, atAnswered, answerSays, isObd, replySays, rejectSays}
 
 -- the step that sends what was written, with some settings, and the one that is refused
 abbrev pub sentStep : ClientState → List ℕ → ℕ → ServerStep
@@ -106,7 +104,7 @@ module _ (self : ServerSession) (list : List ℕ) (out left : List ℕ) (turn : 
 
   -- what is said of a list with these lines
   abbrev repliedTo : List Line → ServerSaid
-  repliedTo ls = lineAwaited (lastAfter ls s) (replyText lf sp hd ls)
+  repliedTo ls = lineAwaited (withLast (s .state) (s .line)) (replyText lf sp hd ls)
 
   pub reply-refused : (r : Refusal) → countWritten (Refused r) left ≡ R.replied lf sp hd list out →
       serverStep (refusedStep self r) left ≡ serverLent (replySays (length out) s list) out
@@ -119,30 +117,15 @@ module _ (self : ServerSession) (list : List ℕ) (out left : List ℕ) (turn : 
       let kept = refused-out out text left rows r q₁ in
       rw (turn, says, kept)
 
-  -- a list of no bytes has no lines, and only that one
-  some-lines : (ls : List Line) → (ls ≡ [] → ⊥) → withLast (s .state) (s .line) ≡ lastAfter ls s
-  some-lines [] z = absurd (z refl)
-  some-lines (l ∷ ls) z = refl
-
-  kept-after : (ls : List Line) (rest : List ℕ) → lineList list ≡ got ls rest → cond (eqb (length list) 0) (s .state) (withLast (s .state) (s .line)) ≡ lastAfter ls s
-  unfolding lineList
-  kept-after ls rest g =
-      by-test (eqb (length list) 0)
-      (λ t.
-      let g₂ = left-end lineFormat 64 list 0 (omega (arith, eqb-true (length list) 0 t)) in
-      let none : ls ≡ [] = cc in
-      rw (t, none))
-      (λ t. rw t (some-lines ls (λ z. eqb-false (length list) 0 t (no-lines 64 list rest (g ∙ rw z)))))
-
   pub reply-sent : (n : ℕ) (state : ClientState) → countWritten (Is n) left ≡ R.replied lf sp hd list out →
-      settings state ≡ cond (eqb (length list) 0) (s .state) (withLast (s .state) (s .line)) →
+      settings state ≡ withLast (s .state) (s .line) →
       serverStep (sentStep state (self .line) n) left ≡ serverLent (replySays (length out) s list) out
   unfolding replySays unless
   reply-sent n state q k =
       let (ls, rest, g, fits, p) = written-told lf sp hd list out q in
       let text = replyText lf sp hd ls in
       let e : replySays (length out) s list ≡ repliedTo ls = rw (turn, g, le-ltb (length out) (length text) fits) in
-      sent state (self .line) text p fits ∙ ap (λ x. serverLent (lineAwaited x text) out) (k ∙ kept-after ls rest g) ∙ ap (λ d. serverLent d out) (sym e)
+      sent state (self .line) text p fits ∙ ap (λ x. serverLent (lineAwaited x text) out) k ∙ ap (λ d. serverLent d out) (sym e)
 
 -- What the contracts give a caller: the bytes to send stand inside the lent buffer.
 within : (d : ServerSaid) (out left : List ℕ) (r : ServerStep) → length (d .text) ≤ length out → serverStep r left ≡ serverLent d out → r .written ≤ length out

@@ -1,5 +1,6 @@
 -- The answers to a command that is handed out. Document 01, server_session.rs: "An AT command updates the client settings it is lent, then is answered with
--- the line ending now in force"; "`reply`: .. It becomes the last command. No lines: `NO DATA`, and the last command remains. `reject` likewise leaves it."
+-- the line ending now in force"; "`reply`: .. It becomes the last command. No lines: `NO DATA`, and the last command remains. `reject` likewise leaves it." Of this
+-- document 02 §13 ends "and the last command remains": "a query answered NO DATA now becomes the server's last command too; a rejected one still doesn't."
 use mathlib.Core.Bool.{Bool, true, false, not, _||_}
 use mathlib.Core.List.{List, [], _∷_}
 use Prim.Native.Nat.{ℕ}
@@ -9,7 +10,7 @@ use Rattle.wire.specs.Answer.{unless}
 use Rattle.wire.specs.Text.{high}
 use Rattle.client_state.specs.Settings.{Settings, withLast}
 use Rattle.group.specs.Group.{isMalformed, listOf}
-use Rattle.line_list.specs.Lines.{Line, lineList}
+use Rattle.line_list.specs.Lines.{lineList}
 use Rattle.at_command.specs.Dialect.{atKind, kindSettings, kindLines}
 use Rattle.reply.specs.Shape.{chipReply}
 use Rattle.reply.specs.Reply.{replyText}
@@ -49,23 +50,18 @@ answerSays room s ati device =
     (ltb room 48, 6) ∷ [])
     (serverRefusing s) (atAnswered s ati device)
 
--- the last command after a reply: with no lines it remains
-abbrev pub lastAfter : List Line → Session → Settings
-lastAfter [] s = s .state
-lastAfter (l ∷ ls) s = withLast (s .state) (s .line)
-
--- a reply: no OBD command is handed out; not a line list; a text longer than the room
+-- a reply: no OBD command is handed out; not a line list; a text longer than the room. With lines or without, the command becomes the last one
 unfoldable pub replySays : ℕ → Session → List ℕ → ServerSaid
 replySays room s list =
     let ls = listOf (lineList list) in
-    let d = lineAwaited (lastAfter ls s) (replyText (s .state .linefeeds) (s .state .spaces) (s .state .headers) ls) in
+    let d = lineAwaited (withLast (s .state) (s .line)) (replyText (s .state .linefeeds) (s .state .spaces) (s .state .headers) ls) in
     unless (
     (not (isObd (s .phase)), 1) ∷
     (isMalformed (lineList list), 5) ∷
     (ltb room (length (d .text)), 6) ∷ [])
     (serverRefusing s) d
 
--- a rejection: no OBD command is handed out; over 64 bytes; a byte of 80 or more; a text longer than the room
+-- a rejection: no OBD command is handed out; over 64 bytes; a byte of 80 or more; a text longer than the room. The last command remains, whatever the text
 unfoldable pub rejectSays : ℕ → Session → List ℕ → ServerSaid
 rejectSays room s text =
     let d = lineAwaited (s .state) (chipReply (s .state .linefeeds) (text ∷ [])) in

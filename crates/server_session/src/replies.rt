@@ -11,9 +11,7 @@ use wire::Count;
 use wire::Refusal;
 use wire::Verdict;
 ghost use mathlib.Core.Path.{_≡_};
-ghost use mathlib.Core.Bool.{cond};
 ghost use mathlib.Core.List.{[], _∷_};
-ghost use lib.Dec.{eqb};
 ghost use lib.ListN.{length, take};
 ghost use Rattle.wire.specs.declared.Refusal.{Refusal};
 ghost use Rattle.wire.specs.Steps.{settled};
@@ -156,16 +154,13 @@ fn put_answer<'a>(handled: AtHandled, ati: &'a [u8], device: &'a [u8], out: &mut
     put_at_answer(out, kind, ati, device, handled.state.linefeeds_enabled)
 }
 
-// The settings after a reply with a line list of some bytes: the first len bytes of a line are the last command, unless there are no lines.
-fn kept(state: ClientState, line: &[u8], len: usize, lines: usize) -> ClientState
+// The settings after a reply to the command that the first len bytes of a line are: it is the last command.
+fn replied(state: ClientState, line: &[u8], len: usize) -> ClientState
     requires { ⌜ length (now line) ≡ 128 ⌝ }
-    ensures { λ r. ⌜ settings r ≡ cond (eqb lines 0) (settings state) (withLast (settings state) (take len (now (line .entry)))) ⌝ }
+    ensures { λ r. ⌜ settings r ≡ withLast (settings state) (take len (now (line .entry))) ⌝ }
 {
-    if lines == 0 {
-        return state;
-    }
-    let end = wire::at_most(len, 128);
-    state.with_last(&line[..end])
+    let size = wire::at_most(len, 128);
+    state.with_last(&line[..size])
 }
 
 impl ServerSession {
@@ -219,7 +214,7 @@ impl ServerSession {
         self.answered(handled.state, written)
     }
 
-    // Replies to the OBD command that is handed out with a line list, in the reader's settings. It becomes the last command, unless there are no lines.
+    // Replies to the OBD command that is handed out with a line list, in the reader's settings; with no lines that is NO DATA. It becomes the last command.
     pub fn reply(self, list: &[u8], out: &mut [u8]) -> ServerStep
         ensures { λ r. ⌜ serverStep r (now (out .exit)) ≡ serverLent (replySays (length (now (out .entry))) (session self) (now (list .entry))) (now (out .entry)) ⌝ }
         ensures { λ r. ⌜ ((q : Refusal) → r .answer ≡ ServerAnswer.Refused q → r .session ≡ self) ⌝ }
@@ -239,13 +234,13 @@ impl ServerSession {
         match answer {
             Count::Refused(refusal) => self.refused(refusal),
             Count::Is(size) => {
-                let state = kept(self.state, &self.line, self.turn.len, list.len());
+                let state = replied(self.state, &self.line, self.turn.len);
                 self.answered(state, size)
             }
         }
     }
 
-    // Rejects the OBD command that is handed out with a line of text, as `?` or UNABLE TO CONNECT.
+    // Rejects the OBD command that is handed out with a line of text, as `?` or UNABLE TO CONNECT. The last command remains.
     pub fn reject(self, text: &[u8], out: &mut [u8]) -> ServerStep
         ensures { λ r. ⌜ serverStep r (now (out .exit)) ≡ serverLent (rejectSays (length (now (out .entry))) (session self) (now (text .entry))) (now (out .entry)) ⌝ }
         ensures { λ r. ⌜ ((q : Refusal) → r .answer ≡ ServerAnswer.Refused q → r .session ≡ self) ⌝ }

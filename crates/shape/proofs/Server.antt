@@ -21,7 +21,7 @@ use Rattle.at_command.specs.declared.IdentityText.the-variants.{Ati, Device}
 use Rattle.reply.specs.Shape.{chipReply}
 use Rattle.server_session.specs.Session.{Session}
 use Rattle.server_session.specs.Call.{ServerSaid}
-use Rattle.server_session.specs.Replies.{answerSays, lastAfter, replySays, rejectSays}
+use Rattle.server_session.specs.Replies.{answerSays, replySays, rejectSays}
 use Rattle.server_session.specs.Bytes.{canonical, echoed, emptyLine, lineEnd, byteTaken, byteSays, goesOn, bytesSay}
 use Rattle.server_session.proofs.ByteLaws.{byte-by, afterText, taken-cr, taken-lf, taken-plain, taken-most, on-taken}
 use Rattle.server_session.proofs.BytesLaws.{bytes-on, bytes-stop}
@@ -52,11 +52,6 @@ answer-shaped room s ati device p q =
 
 -- ---- OBD commands
 
--- a reply leaves the linefeeds setting
-last-linefeeds : (ls : List Line) (s : Session) → lastAfter ls s .linefeeds ≡ s .state .linefeeds
-last-linefeeds [] s = refl
-last-linefeeds (l ∷ ls) s = refl
-
 -- the lines of a list fit their form; a malformed list has none
 lines-fit : (list : List ℕ) (g : Read (List Line)) → lineList list ≡ g → Each Fits (listOf g)
 lines-fit list (failed n) q = tt
@@ -68,7 +63,7 @@ reply-shaped room s list =
     let ls = listOf (lineList list) in
     let texts = lineTexts (s .state .spaces) (s .state .headers) ls in
     let framed = reply-framed (s .state .linefeeds) (s .state .spaces) (s .state .headers) ls in
-    record { lines = texts; form = texts-fill (s .state) ls (lines-fit list (lineList list) refl); sends = unless-by (λ d. Sends d texts) _ (λ n. refl) (λ _. rw (last-linefeeds ls s) framed) }
+    record { lines = texts; form = texts-fill (s .state) ls (lines-fit list (lineList list) refl); sends = unless-by (λ d. Sends d texts) _ (λ n. refl) (λ _. framed) }
 
 -- with a text that holds no byte of the frame
 pub reject-shaped : (room : ℕ) (s : Session) (text : List ℕ) → any breaksLine text ≡ false → Sends (rejectSays room s text) (text ∷ [])
