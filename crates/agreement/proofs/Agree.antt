@@ -78,7 +78,7 @@ values-agree L lengths a (l ∷ ls) g b =
 -- ---- a length learned from a reply to one PID is the run's
 
 -- every length that the lines show is the run's
-abbrev EachRight : (ℕ → ℕ) → ℕ → List ℕ → Type 0
+abbrev pub EachRight : (ℕ → ℕ) → ℕ → List ℕ → Type 0
 EachRight L p [] = Unit {0}
 EachRight L p (n ∷ ns) = (n ≡ L p) × EachRight L p ns
 
@@ -94,7 +94,7 @@ show-line L p ns h (table q d (next q′ d′ s′ r′ i j t)) r =
     (λ t. let same = eqb-true q p t in from-no cc)
     (λ t. rw t r)
 
-show-lines : (L : ℕ → ℕ) (p : ℕ) → j1979 p ≡ none → (ls : List Line) → GoodLines L ls → EachRight L p (shownLengths p ls)
+pub show-lines : (L : ℕ → ℕ) (p : ℕ) → j1979 p ≡ none → (ls : List Line) → GoodLines L ls → EachRight L p (shownLengths p ls)
 show-lines L p h [] g = tt
 show-lines L p h (l ∷ ls) g =
     let (s, q, t) = g .0 in
@@ -131,13 +131,14 @@ outside : (L : ℕ → ℕ) (lengths : List ℕ) (p : ℕ) (o : Option ℕ) → 
 outside L lengths p none b a i q = i
 outside L lengths p (some n) b a i q = from-no (cc (a .known p n b i))
 
-learned-by : (L : ℕ → ℕ) (lengths : List ℕ) (p : ℕ) (ls : List Line) (o : Option ℕ) → p < 256 → Agree L lengths → GoodLines L ls → lengthIn lengths p ≡ o →
-    Agree L (withLength lengths p o (agreed (shownLengths p ls)))
-learned-by L lengths p ls (some n) b a g q = a
-learned-by L lengths p ls none b a g q =
+learned-by : (L : ℕ → ℕ) (lengths : List ℕ) (p : ℕ) (ns : List ℕ) (o : Option ℕ) → p < 256 → Agree L lengths → (j1979 p ≡ none → EachRight L p ns) → lengthIn lengths p ≡ o →
+    Agree L (withLength lengths p o (agreed ns))
+learned-by L lengths p ns (some n) b a r q = a
+learned-by L lengths p ns none b a r q =
     let h = outside L lengths p (j1979 p) b a refl q in
-    kept L lengths p (agreed (shownLengths p ls)) b h (agreed-right L p (shownLengths p ls) (show-lines L p h ls g)) a
+    kept L lengths p (agreed ns) b h (agreed-right L p ns (r h)) a
 
-pub learn-agree : (L : ℕ → ℕ) (lengths : List ℕ) (p : ℕ) (ls : List Line) → p < 256 → Agree L lengths → GoodLines L ls → Agree L (learnLength lengths p ls)
+pub learn-agree : (L : ℕ → ℕ) (lengths : List ℕ) (p : ℕ) (ls : List Line) → p < 256 → Agree L lengths → (j1979 p ≡ none → EachRight L p (shownLengths p ls)) →
+    Agree L (learnLength lengths p ls)
 unfolding learnLength
-learn-agree L lengths p ls b a g = learned-by L lengths p ls (lengthIn lengths p) b a g refl
+learn-agree L lengths p ls b a r = learned-by L lengths p (shownLengths p ls) (lengthIn lengths p) b a r refl

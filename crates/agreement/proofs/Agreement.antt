@@ -24,10 +24,11 @@ use Rattle.bench.specs.Script.{Query, script}
 use Rattle.bench.specs.Run.{Run, Recorded}
 use Rattle.agreement.specs.Vehicle.{given, SameValues, SameQueries}
 use Rattle.agreement.specs.Ends.{Reach, tooLong, reach}
-use Rattle.agreement.specs.Demand.{GoodQueries, givens, commands, firstParts, Drive, Ran, queries, hireRecord, partsStanding, comesTo, GoodRan, reaches, EveryFits}
-use Rattle.agreement.specs.Demand.{Reads, Holds, Agreement}
+use Rattle.agreement.specs.Demand.{givens, commands, firstParts, Drive, Ran, queries, hireRecord, partsStanding, comesTo, GoodFirst, GoodAll, GoodRan, reaches, EveryFits}
+use Rattle.agreement.specs.Demand.{AnyRun, Holds, Agreement}
 use Rattle.agreement.proofs.Parts.{ordered}
-use Rattle.agreement.proofs.Ran.{take-first, reach-few, length-ordered, run-known, run-refused}
+use Rattle.agreement.proofs.Agree.{agree-fresh}
+use Rattle.agreement.proofs.Ran.{take-first, reach-few, reach-given, length-ordered, run-known, run-refused}
 
 -- ---- the first n of some lists
 
@@ -142,8 +143,9 @@ ordered-givens (q ∷ qs) = ap (λ vss. answerOrder (given (q .lines)) ∷ vss) 
 
 -- ---- one run
 
--- What is known of a run whose first n queries are the demand's: how many parts stand, and of which values.
-record Stands (n : ℕ) (d : Drive) : Type 0 where
+-- What is known of a run: how many parts stand, of which values, and which commands were handed out; and of the first n queries, where these are the demand's, that the
+-- values are what was given.
+record Stands (d : Drive) : Type 0 where
   values : List (List Value)
   each : length values ≡ length (queries d)
   fits : RecordFits values
@@ -151,11 +153,9 @@ record Stands (n : ℕ) (d : Drive) : Type 0 where
   few : count ≤ length values
   parts : comesTo d .parts ≡ map (partFormat .write) (take count values)
   inside : length (joined (map (partFormat .write) (take count values))) ≤ length (d .lentBuffer)
-  first : take n values ≡ take n (ordered (queries d))
-  fit : count < n → count ≡ reaches d .fit
-  answer : count < n → comesTo d .answer ≡ reaches d .answer
-  handed : count < n → comesTo d .handed ≡ take (suc count) (commands (queries d))
-  before : n ≤ count → take n (comesTo d .handed) ≡ take n (commands (queries d))
+  handed : comesTo d .handed ≡ take (suc count) (commands (queries d))
+  first : (n : ℕ) → GoodFirst n d → take n values ≡ take n (ordered (queries d))
+  reached : (n : ℕ) → GoodFirst n d → count < n → record { fit = count; answer = comesTo d .answer } ≡ reaches d
 
 module _ (d : Drive) (r : Ran d) where
   abbrev room : ℕ
@@ -164,135 +164,124 @@ module _ (d : Drive) (r : Ran d) where
   bytes : Bytes (d .scriptBytes)
   bytes = all-from (λ b. b < 256) (d .scriptBytes) (r .bytes)
 
-  module _ (L : ℕ → ℕ) (n : ℕ) where
-    by-script : (a : Answer (List Query)) → script (d .scriptBytes) ≡ a → GoodQueries L (take n (queries d)) → Stands n d
-    by-script (refused m) e good =
-        let run = run-refused (d .repeat) (d .pieces) (d .scriptBytes) bytes m room e in
-        record {
-          values = [];
-          each = rw e refl;
-          fits = tt;
-          count = 0;
-          few = omega arith;
-          parts = ap (λ (r : Run). r .parts) run;
-          inside = omega arith;
-          first = rw e refl;
-          fit = λ h. rw e refl;
-          answer = λ h. ap (λ (r : Run). r .answer) run ∙ rw e refl;
-          handed = λ h. ap (λ (r : Run). r .handed) run ∙ rw e refl;
-          before = λ h. ap (λ (r : Run). take n (r .handed)) run ∙ rw e refl;
-        }
-    by-script (result qs) e good =
-        let k = run-known (d .repeat) (d .pieces) (d .scriptBytes) bytes L n qs e (rw e at good) in
-        let vss = k .limited .values in
-        record {
-          values = vss;
-          each = rw e (k .limited .each);
-          fits = k .fits;
-          count = reach room qs vss .fit;
-          few = reach-few room qs vss;
-          parts = k .limited .parts room;
-          inside = reach-inside room qs vss;
-          first = rw e (k .first);
-          fit = λ h. rw e (ap (λ (r : Reach). r .fit) (k .reached room h));
-          answer = λ h. rw e (k .limited .answer room ∙ ap (λ (r : Reach). r .answer) (k .reached room h));
-          handed = λ h. rw e (k .handed room h);
-          before = λ h. rw e (k .before room h);
-        }
-
-    stands : GoodQueries L (take n (queries d)) → Stands n d
-    stands good = by-script (script (d .scriptBytes)) refl good
-
-  module _ (n : ℕ) (t : Stands n d) where
-    abbrev standing : List (List Value)
-    standing = take (t .count) (t .values)
-
-    standing-fits : RecordFits standing
-    standing-fits = fits-first (t .count) (t .values) (t .fits)
-
-    -- what stands in the buffer is the row of these parts, since they fit into it
-    record-is : hireRecord d ≡ writeRow partFormat standing
-    record-is =
-        let w : d .run .written ≡ length (joined (comesTo d .parts)) = ap (λ (x : Recorded). x .written) (r .ran) in
-        let b : d .buffer ≡ sets (d .lentBuffer) 0 (joined (comesTo d .parts)) = ap (λ (x : Recorded). x .out) (r .ran) in
-        let inside : length (joined (comesTo d .parts)) ≤ room = rw (t .parts) (t .inside) in
-        let put : Put (d .lentBuffer) 0 (joined (comesTo d .parts)) (d .run .written) (d .buffer) = record { next = omega arith; bytes = b } in
-        put-front put ∙ take-all room (joined (comesTo d .parts)) inside ∙ ap joined (t .parts) ∙ joined-row standing
-
-    stand-is : partsStanding d ≡ t .count
-    stand-is =
-        ap (λ s. length (listOf (readRecord s))) record-is ∙
-        ap (λ r. length (listOf r)) (record-back standing standing-fits) ∙ (omega (arith, length-take (t .count) (t .values), t .few))
-
-  -- all parts are read, and they are the whole record, on every script: nothing is asked of no query
-  reads : Reads d
-  reads =
-      let t = stands (λ p. 0) 0 tt in
-      let n = t .count in
+  by-script : (a : Answer (List Query)) → script (d .scriptBytes) ≡ a → Stands d
+  by-script (refused m) e =
+      let run = run-refused (d .repeat) (d .pieces) (d .scriptBytes) bytes m room e in
       record {
-        each =
-            stand-is 0 t ∙
-            (omega (arith, ap length (t .parts), length-map (standing 0 t) (partFormat .write), length-take n (t .values), t .few));
-        all =
-            ap (λ n. firstParts n (hireRecord d)) (stand-is 0 t) ∙ ap (firstParts n) (record-is 0 t) ∙ first-parts n (standing 0 t) (standing-fits 0 t)
-            ∙ ap (writeRow partFormat) (take-take n n (t .values) (omega arith)) ∙ sym (record-is 0 t);
+        values = [];
+        each = rw e refl;
+        fits = tt;
+        count = 0;
+        few = omega arith;
+        parts = ap (λ (r : Run). r .parts) run;
+        inside = omega arith;
+        handed = ap (λ (r : Run). r .handed) run ∙ rw e refl;
+        first = λ n g. rw e refl;
+        reached = λ n g h. (λ i. record { fit = 0; answer = run i .answer }) ∙ rw e refl;
+      }
+  by-script (result qs) e =
+      let k = run-known (d .repeat) (d .pieces) (d .scriptBytes) bytes qs e in
+      let vss = k .limited .values in
+      let first : ((n : ℕ) → GoodFirst n d → take n vss ≡ take n (ordered qs)) = λ n g. k .first (g .0) n (agree-fresh (g .0)) (rw e at (g .1)) in
+      record {
+        values = vss;
+        each = rw e (k .limited .each);
+        fits = k .fits;
+        count = reach room qs vss .fit;
+        few = reach-few room qs vss;
+        parts = k .limited .parts room;
+        inside = reach-inside room qs vss;
+        handed = rw e (k .handed room);
+        first = λ n g. rw e (first n g);
+        reached = λ n g h.
+            (λ i. record { fit = reach room qs vss .fit; answer = k .limited .answer room i }) ∙ rw e (reach-given n room qs vss (k .limited .each) (first n g) h);
       }
 
-  holds : GoodRan d → Holds d
-  holds (L, good) =
-      let n = suc (partsStanding d) in
-      let t = stands L n good in
-      let s = stand-is n t in
-      let ran : t .count < n = omega (arith, s) in
+  stands : Stands d
+  stands = by-script (script (d .scriptBytes)) refl
+
+  abbrev standing : List (List Value)
+  standing = take (stands .count) (stands .values)
+
+  standing-fits : RecordFits standing
+  standing-fits = fits-first (stands .count) (stands .values) (stands .fits)
+
+  -- what stands in the buffer is the row of these parts, since they fit into it
+  record-is : hireRecord d ≡ writeRow partFormat standing
+  record-is =
+      let t = stands in
+      let w : d .run .written ≡ length (joined (comesTo d .parts)) = ap (λ (x : Recorded). x .written) (r .ran) in
+      let b : d .buffer ≡ sets (d .lentBuffer) 0 (joined (comesTo d .parts)) = ap (λ (x : Recorded). x .out) (r .ran) in
+      let inside : length (joined (comesTo d .parts)) ≤ room = rw (t .parts) (t .inside) in
+      let put : Put (d .lentBuffer) 0 (joined (comesTo d .parts)) (d .run .written) (d .buffer) = record { next = omega arith; bytes = b } in
+      put-front put ∙ take-all room (joined (comesTo d .parts)) inside ∙ ap joined (t .parts) ∙ joined-row standing
+
+  stand-is : partsStanding d ≡ stands .count
+  stand-is =
+      ap (λ s. length (listOf (readRecord s))) record-is ∙
+      ap (λ r. length (listOf r)) (record-back standing standing-fits) ∙ (omega (arith, length-take (stands .count) (stands .values), stands .few))
+
+  any-run : AnyRun d
+  any-run =
+      let t = stands in
+      let n = t .count in
       record {
-        stand = s ∙ t .fit ran;
-        answer = ap (λ (x : Recorded). x .answer) (r .ran) ∙ t .answer ran;
-        whole = λ f. s ∙ t .fit ran ∙ fits-whole d f;
-        values =
-            ap (λ s. listOf (readRecord s)) (record-is n t) ∙ ap listOf (record-back (standing n t) (standing-fits n t))
-            ∙ sym (take-take (t .count) n (t .values) (omega arith)) ∙ ap (take (t .count)) (t .first) ∙ take-take (t .count) n (ordered (queries d)) (omega arith)
-            ∙ ap (take (t .count)) (ordered-givens (queries d)) ∙ ap (λ k. take k (map answerOrder (givens (queries d)))) (sym s);
-        handed = t .handed ran ∙ ap (λ n. take (suc n) (commands (queries d))) (sym s);
+        each = stand-is ∙ (omega (arith, ap length (t .parts), length-map standing (partFormat .write), length-take n (t .values), t .few));
+        all =
+            ap (λ n. firstParts n (hireRecord d)) stand-is ∙ ap (firstParts n) record-is ∙ first-parts n standing standing-fits
+            ∙ ap (writeRow partFormat) (take-take n n (t .values) (omega arith)) ∙ sym record-is;
+        handed = t .handed ∙ ap (λ n. take (suc n) (commands (queries d))) (sym stand-is);
       }
 
   -- the first n parts are those of what the vehicle gave
-  first-is : (n : ℕ) (t : Stands n d) → n ≤ partsStanding d → take n (standing n t) ≡ take n (ordered (queries d))
-  first-is n t h = take-first n (t .count) (t .values) (omega (arith, stand-is n t)) ∙ t .first
+  first-is : (n : ℕ) → GoodFirst n d → n ≤ partsStanding d → take n standing ≡ take n (ordered (queries d))
+  first-is n g h = take-first n (stands .count) (stands .values) (omega (arith, stand-is)) ∙ stands .first n g
 
   -- and where all fit, all of them are
-  all-is : (t : Stands (length (queries d)) d) → EveryFits d → standing (length (queries d)) t ≡ ordered (queries d)
-  all-is t f =
+  all-is : GoodAll d → EveryFits d → standing ≡ ordered (queries d)
+  all-is g f =
+      let t = stands in
       let n = length (queries d) in
       let whole : t .count ≡ n =
-      by-test (ltb (t .count) n) (λ e. t .fit (ltb-true (t .count) n e) ∙ fits-whole d f) (λ e. omega (arith, ltb-false (t .count) n e, t .few, t .each)) in
-      ap (λ k. take k (t .values)) whole ∙ t .first ∙ ap (λ k. take k (ordered (queries d))) (sym (length-ordered (queries d))) ∙ take-whole (ordered (queries d))
+      by-test (ltb (t .count) n)
+      (λ e. ap (λ (r : Reach). r .fit) (t .reached n g (ltb-true (t .count) n e)) ∙ fits-whole d f)
+      (λ e. omega (arith, ltb-false (t .count) n e, t .few, t .each)) in
+      ap (λ k. take k (t .values)) whole ∙ t .first n g ∙ ap (λ k. take k (ordered (queries d))) (sym (length-ordered (queries d))) ∙ take-whole (ordered (queries d))
+
+  holds : GoodRan d → Holds d
+  holds g =
+      let t = stands in
+      let n = suc (partsStanding d) in
+      let s = stand-is in
+      let reached = t .reached n g (omega (arith, s)) in
+      let fit : t .count ≡ reaches d .fit = ap (λ (r : Reach). r .fit) reached in
+      record {
+        stand = s ∙ fit;
+        answer = ap (λ (x : Recorded). x .answer) (r .ran) ∙ ap (λ (r : Reach). r .answer) reached;
+        whole = λ f. s ∙ fit ∙ fits-whole d f;
+        values =
+            ap (λ s. listOf (readRecord s)) record-is ∙ ap listOf (record-back standing standing-fits)
+            ∙ sym (take-take (t .count) n (t .values) (omega arith)) ∙ ap (take (t .count)) (t .first n g) ∙ take-take (t .count) n (ordered (queries d)) (omega arith)
+            ∙ ap (take (t .count)) (ordered-givens (queries d)) ∙ ap (λ k. take k (map answerOrder (givens (queries d)))) (sym s);
+      }
 
 -- ---- two runs
 
 pub agreement : (d e : Drive) → Ran d → Ran e → Agreement d e
 agreement d e r s = record {
-  readsOne = reads d r;
-  readsTwo = reads e s;
+  anyOne = any-run d r;
+  anyTwo = any-run e s;
   one = holds d r;
   two = holds e s;
   equal = λ g h f i.
-      let t = stands d r (g .0) (length (queries d)) (g .1) in
-      let u = stands e s (h .0) (length (queries e)) (h .1) in
-      let same = same-rows (standing d r _ t) (standing e s _ u) (standing-fits d r _ t) (standing-fits e s _ u) in
-      rw (record-is d r _ t, record-is e s _ u) (iff-then same (rw (all-is d r t f, all-is e s u i) (same-ordered (queries d) (queries e))));
+      let same = same-rows (standing d r) (standing e s) (standing-fits d r) (standing-fits e s) in
+      rw (record-is d r, record-is e s) (iff-then same (rw (all-is d r g f, all-is e s h i) (same-ordered (queries d) (queries e))));
   before = λ n h i g k.
-      let t = stands d r (g .0) n (g .1) in
-      let u = stands e s (k .0) n (k .1) in
-      let vss = standing d r n t in
-      let wss = standing e s n u in
-      let fits = standing-fits d r n t in
-      let fits′ = standing-fits e s n u in
+      let vss = standing d r in
+      let wss = standing e s in
+      let fits = standing-fits d r in
+      let fits′ = standing-fits e s in
       let same = same-rows (take n vss) (take n wss) (fits-first n vss fits) (fits-first n wss fits′) in
-      record {
-        equal =
-            rw (record-is d r n t, record-is e s n u, first-parts n vss fits, first-parts n wss fits′)
-            (iff-then same (rw (first-is d r n t h, first-is e s n u i) (same-taken n (queries d) (queries e))));
-        handedOne = t .before (omega (arith, stand-is d r n t));
-        handedTwo = u .before (omega (arith, stand-is e s n u));
-      };
+      rw (record-is d r, record-is e s, first-parts n vss fits, first-parts n wss fits′)
+      (iff-then same (rw (first-is d r n g h, first-is e s n k i) (same-taken n (queries d) (queries e))));
 }

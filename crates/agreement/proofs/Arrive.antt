@@ -9,7 +9,7 @@ use lib.ListN.{length, take, length-append}
 use lib.Seq.{sets}
 use borrow.Author.Tests.{ltb-true, ltb-false}
 use Rattle.wire.specs.Answer.{refused}
-use Rattle.wire.specs.Text.{ascii, has, high, joined}
+use Rattle.wire.specs.Text.{has, high, joined}
 use Rattle.wire.proofs.Cases.{by-test, or-none}
 use Rattle.wire.proofs.TextLaws.{has-append, high-append}
 use Rattle.hex.specs.Digits.{hexDigit}
@@ -139,11 +139,6 @@ plainly ls h = record { prompt = body-prompt false false true ls; low = body-low
 pub no-question : (ls : List Line) → has 63 (replyText false false true ls) ≡ false
 unfolding has hexDigit
 no-question ls = ap (has 63) (reply-prompt false false true ls) ∙ has-append 63 (replyBody false false true ls) (62 ∷ []) ∙ rw (body-none (λ c. eqb c 63) tt refl false false true ls)
-
--- one stands in the reply `?`, which is `?`, CR, CR and the prompt
-pub question-plainly : Plainly (ascii "?\r\r")
-unfolding has high
-question-plainly = record { prompt = refl; low = refl; nulls = refl; short = omega arith }
 
 -- and a reply to lines, or to none, gets 8 when it has more than 4,096 bytes
 module _ (k : Command) (c : Client) (store ks : List ℕ) (w : Awaiting sendRoom k c store []) (ls : List Line) where

@@ -16,7 +16,6 @@ use Rattle.wire.proofs.Cases.{by-test}
 use Rattle.line_list.specs.Lines.{Line, Fits, linesBytes}
 use Rattle.line_list.proofs.LineLaws.{list-back}
 use Rattle.at_command.specs.Dialect.{atKind}
-use Rattle.reply.specs.Shape.{chipReply}
 use Rattle.reply.specs.Reply.{replyText}
 use Rattle.reply.proofs.SizeLaws.{line-length, linesSize, some-length, none-length}
 use Rattle.reply_lines.specs.Lines.{unspaced}
@@ -26,8 +25,8 @@ use Rattle.query.proofs.QueryLaws.{query-within, query-short}
 use Rattle.server_session.specs.declared.Phase.the-variants.{Reading, ObdCommand}
 use Rattle.server_session.specs.Session.{Session, freshSession}
 use Rattle.server_session.specs.Call.{ServerSaid}
-use Rattle.server_session.specs.Bytes.{canonical, withLine, commandPhase, byteTaken, byteSays, bytesSay}
-use Rattle.server_session.specs.Replies.{answerSays, lastAfter, replySays}
+use Rattle.server_session.specs.Bytes.{canonical, commandPhase, byteTaken, byteSays, bytesSay}
+use Rattle.server_session.specs.Replies.{answerSays, replySays}
 use Rattle.server_session.specs.Steps.{isSpecial}
 use Rattle.server_session.proofs.BytesLaws.{handing, cr-repeat, line-says}
 use Rattle.bench.specs.Exchange.{answeredBy, exchanged}
@@ -89,26 +88,16 @@ reply-fits (l ∷ ls) f h = omega (arith, some-length false false true l ls, lin
 
 -- ---- an OBD command that is handed out
 
--- the last command after a reply with these lines: where there are none, the one before remains
-abbrev pub lastCommand : List Line → List ℕ → List ℕ → List ℕ
-lastCommand [] last command = last
-lastCommand (l ∷ ls) last command = command
-
--- the server keeps 128 bytes of it, so such a command whole
-kept-whole : (last command : List ℕ) → length command ≤ 128 → (ls : List Line) →
-    lastAfter ls (withLine (quiet last) command ObdCommand) ≡ quiet (lastCommand ls last command) .state
-kept-whole last command k [] = refl
-kept-whole last command k (l ∷ ls) = rw (take-all 128 command k)
-
--- a command handed out is answered with the lines of the query under way
+-- a command handed out is answered with the lines of the query under way, or with NO DATA where there are none, and becomes the last command: the server keeps 128
+-- bytes of it, so such a command whole
 lines-heard : (last text command : List ℕ) (n : ℕ) → bytesSay replyRoom (quiet last) text ≡ handing (quiet last) command ObdCommand n [] → length command ≤ 128 →
     (ls : List Line) → Each Fits ls → length ls ≤ 64 →
     exchanged replyRoom (quiet last) text (linesBytes ls) ≡
-    record { next = quiet (lastCommand ls last command); text = replyText false false true ls; handed = command ∷ [] }
+    record { next = quiet command; text = replyText false false true ls; handed = command ∷ [] }
 unfolding exchanged replySays unless
 lines-heard last text command n e k ls f h =
     ap (λ (d : ServerSaid). answeredBy (replyRoom - length (d .text)) (d .answer) d (linesBytes ls)) e ∙
-    rw (list-back ls f h, le-ltb replyRoom _ (reply-fits ls f h), kept-whole last command k ls)
+    rw (list-back ls f h, le-ltb replyRoom _ (reply-fits ls f h), take-all 128 command k)
 
 -- ---- a query's text
 
@@ -168,7 +157,7 @@ module _ (pids : List ℕ) (count : ℕ) where
       pub heard : (last : List ℕ) (ls : List Line) → Each Fits ls → length ls ≤ 64 →
           exchanged replyRoom (quiet last) (queryText pids count ++ (13 ∷ [])) (linesBytes ls) ≡
           record {
-            next = quiet (lastCommand ls last (unspaced (queryText pids count)));
+            next = quiet (unspaced (queryText pids count));
             text = replyText false false true ls;
             handed = unspaced (queryText pids count) ∷ [];
           }
@@ -176,18 +165,9 @@ module _ (pids : List ℕ) (count : ℕ) where
 
 -- ---- a bare CR
 
-last-same : (ls : List Line) (t : List ℕ) → lastCommand ls t t ≡ t
-last-same [] t = refl
-last-same (l ∷ ls) t = refl
-
 -- it hands out the last command again
 pub heard-again : (t : List ℕ) → 0 < length t → length t ≤ 128 → (ls : List Line) → Each Fits ls → length ls ≤ 64 →
     exchanged replyRoom (quiet t) (13 ∷ []) (linesBytes ls) ≡ record { next = quiet t; text = replyText false false true ls; handed = t ∷ [] }
 unfolding canonical
 heard-again t some short ls f h =
-    lines-heard t (13 ∷ []) t 1 (cr-repeat [] (quiet t) replyRoom refl (omega arith) refl some) short ls f h ∙ rw (last-same ls t)
-
--- where there is none it is unknown, whatever the lines
-pub heard-unknown : (list : List ℕ) → exchanged replyRoom (quiet []) (13 ∷ []) list ≡ record { next = quiet []; text = chipReply false (ascii "?" ∷ []); handed = [] }
-unfolding exchanged bytesSay byteSays unless byteTaken canonical
-heard-unknown list = refl
+    lines-heard t (13 ∷ []) t 1 (cr-repeat [] (quiet t) replyRoom refl (omega arith) refl some) short ls f h

@@ -8,7 +8,6 @@ pub mod Started
 pub mod Replied
 pub mod Asked
 pub mod Parts
-pub mod AnyQuery
 pub mod Ran
 pub mod Numbers
 pub mod Agreement

@@ -3,7 +3,6 @@
 use mathlib.Core.Path.{_≡_, refl, ap}
 use mathlib.Core.Bool.{true}
 use mathlib.Core.List.{List, [], _∷_, _++_}
-use mathlib.Core.Logic.{_↔_}
 use Prim.Native.Nat.{ℕ}
 use native.Mathlib.Omega.{arith}
 use lib.ListN.{length, getD, replicate}
@@ -35,9 +34,8 @@ use Rattle.bench.specs.Exchange.{exchanged}
 use Rattle.bench.specs.Deliver.{pieces}
 use Rattle.bench.specs.declared.RunAnswer.the-variants.{Complete, Refused}
 use Rattle.bench.specs.Run.{initialised, part, runSays, recorded, runLent}
-use Rattle.agreement.specs.Vehicle.{SameQueries}
 use Rattle.agreement.specs.Lines.{end, next, alone, table}
-use Rattle.agreement.specs.Demand.{givens, firstParts, Drive, drive, comesTo, Ran, queries, hireRecord, GoodFirst, GoodAll, EveryFits, Holds, HoldsFirst}
+use Rattle.agreement.specs.Demand.{firstParts, Drive, drive, comesTo, Ran, hireRecord, GoodFirst, GoodAll, EveryFits, Holds, Equal, EqualFirst}
 use Rattle.agreement.proofs.Parts.{ordered}
 use Rattle.agreement.proofs.Witness.{
   scriptOf,
@@ -65,10 +63,6 @@ use Rattle.agreement.proofs.Witness.{
   ended8-run,
 }
 
--- what demand 3 claims of two runs
-abbrev Equal : Drive → Drive → Type 0
-Equal d e = hireRecord d ≡ hireRecord e ↔ SameQueries (givens (queries d)) (givens (queries e))
-
 -- how many data bytes the first value has
 abbrev dataOf : List Value → ℕ
 dataOf [] = 0
@@ -85,34 +79,6 @@ vehicle ls = query (0x0D ∷ []) 0 ls
 
 abbrev makers : List Line → Query
 makers ls = query (0xE0 ∷ []) 0 ls
-
--- ---- "a line list of one line or more"
-
--- The server remembers no query that it answered NO DATA, and the client does: so the repeat is taken for the query before it.
-abbrev noLine : List Query
-noLine = engine 0 0xF8 ∷ vehicle [] ∷ vehicle (line 0 (0x41 ∷ 0x0D ∷ 0x20 ∷ []) ∷ []) ∷ []
-
-abbrev unanswered : Drive
-unanswered = drive true [] (scriptOf noLine) (replicate 18 0) ((1 ∷ engineValue 0xF8) ++ (0 ∷ 1 ∷ speedValue)) (record { answer = Complete; written = 18 })
-
-unanswered-run : Computed unanswered noLine (ascii "010C1" ∷ ascii "010D" ∷ ascii "010C1" ∷ [])
-unfolding has high isSpace raised hexDigit digit j1979 mode01Lengths groupBytes lineList valueFormat atKind lineText replyText canonical
-    unless byteTaken byteSays bytesSay answerSays replySays queryText textLines textLine replyLines walked answerOrder learnLength initSays querySays
-    replyTakes pieceSays finishSays script queryFormat exchanged pieces initialised part runSays
-unanswered-run = record { ran = record { bytes = low-at (scriptOf noLine) refl; ran = refl }; reads = refl; handed = refl }
-
--- the last character of the third command
-abbrev lastOfThird : List (List ℕ) → ℕ
-lastOfThird cs = getD (getD cs 2 []) 3 0
-
-without-line : EveryFits unanswered × (Holds unanswered → ⊥)
-unfolding readRecord lineText replyText hexDigit valueFormat groupBytes j1979 queryText
-without-line = (
-  fits unanswered-run refl,
-  λ h.
-      let e : _≡_ {A = ℕ} 0x43 0x44 = ap lastOfThird (rw (unanswered-run .reads, unanswered-run .handed) at (h .handed)) in
-      absurd (omega arith),
-)
 
 -- ---- "a PID outside the table stands alone on its line"
 
@@ -145,11 +111,8 @@ good-apart = good-all apart-run (λ p. 3) (
   good-own,
   (
     (
-      omega arith,
-      (
-        (_, refl, table _ _ (next 0x0D (0x20 ∷ []) [] _ refl refl end)),
-        ((_, refl, alone 0xE0 (1 ∷ 2 ∷ 3 ∷ []) refl refl), ((_, refl, table _ _ (next 0x0C (0x1A ∷ 0xF8 ∷ []) [] _ refl refl end)), tt)),
-      ),
+      (_, refl, table _ _ (next 0x0D (0x20 ∷ []) [] _ refl refl end)),
+      ((_, refl, alone 0xE0 (1 ∷ 2 ∷ 3 ∷ []) refl refl), ((_, refl, table _ _ (next 0x0C (0x1A ∷ 0xF8 ∷ []) [] _ refl refl end)), tt)),
     ),
     tt,
   ),
@@ -194,7 +157,7 @@ good-level : GoodAll (twoValues level)
 unfolding j1979
 good-level = good-all level-run (λ p. 3) (
   good-own,
-  ((omega arith, ((_, refl, alone 0xE0 (1 ∷ 2 ∷ 3 ∷ []) refl refl), ((_, refl, table _ _ (next 0x0D (0x20 ∷ []) [] _ refl refl end)), tt))), tt),
+  (((_, refl, alone 0xE0 (1 ∷ 2 ∷ 3 ∷ []) refl refl), ((_, refl, table _ _ (next 0x0D (0x20 ∷ []) [] _ refl refl end)), tt)), tt),
 )
 
 two-lengths : GoodAll (twoValues level) × EveryFits (twoValues longer) × EveryFits (twoValues level) × (Equal (twoValues longer) (twoValues level) → ⊥)
@@ -275,16 +238,16 @@ reply-too-long = (
 
 -- ---- "of the queries before that point, whose parts stand"
 
-more-than-stand : HoldsFirst 3 first ended6 → ⊥
+more-than-stand : EqualFirst 3 first ended6 → ⊥
 unfolding firstParts readRecord lineText replyText hexDigit valueFormat groupBytes j1979
 more-than-stand h =
-    let e : _≡_ {A = ℕ} 34 18 = ap length (h .equal .1 (rw (first-run .reads) ((λ p. refl), ((λ p. refl), ((λ p. refl), tt))))) in
+    let e : _≡_ {A = ℕ} 34 18 = ap length (h .1 (rw (first-run .reads) ((λ p. refl), ((λ p. refl), ((λ p. refl), tt))))) in
     absurd (omega arith)
 
-more-than-stand-before : HoldsFirst 3 ended6 first → ⊥
+more-than-stand-before : EqualFirst 3 ended6 first → ⊥
 unfolding firstParts readRecord lineText replyText hexDigit valueFormat groupBytes j1979
 more-than-stand-before h =
-    let e : _≡_ {A = ℕ} 18 34 = ap length (h .equal .1 (rw (first-run .reads) ((λ p. refl), ((λ p. refl), ((λ p. refl), tt))))) in
+    let e : _≡_ {A = ℕ} 18 34 = ap length (h .1 (rw (first-run .reads) ((λ p. refl), ((λ p. refl), ((λ p. refl), tt))))) in
     absurd (omega arith)
 
 -- ---- what is known of a call

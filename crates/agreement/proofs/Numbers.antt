@@ -14,7 +14,7 @@ use Rattle.agreement.proofs.Ran.{run-known, run-refused}
 module _ (repeat : Bool) (ks s : List ℕ) (bytes : Bytes s) where
   by-script : (a : Answer (List Query)) → script s ≡ a → Ends a (λ room. runSays repeat ks room s)
   by-script (refused n) e = (script-numbers s n e, λ room. run-refused repeat ks s bytes n room e)
-  by-script (result qs) e = run-known repeat ks s bytes (λ p. 0) 0 qs e tt .limited
+  by-script (result qs) e = run-known repeat ks s bytes qs e .limited
 
   -- a script is bytes
   pub run-ends : Ends (script s) (λ room. runSays repeat ks room s)

@@ -1,5 +1,6 @@
--- A list of queries: what ends its run, on every script; and, where the first n queries are the demand's, that their parts are what the vehicle gave.
-use mathlib.Core.Path.{_≡_, refl, sym, ap, _∙_}
+-- A list of queries: what ends its run and which commands are handed out, on every script; and, where the first n queries are the demand's, that their parts are what the
+-- vehicle gave.
+use mathlib.Core.Path.{_≡_, refl, sym, ap, subst, _∙_}
 use mathlib.Core.Bool.{Bool, true, false}
 use mathlib.Core.List.{List, [], _∷_, map}
 use Prim.Native.Nat.{ℕ, zero, suc, _-_, _≤_, _<_}
@@ -11,8 +12,9 @@ use Rattle.group.specs.Format.{Each}
 use Rattle.wire.specs.Answer.{result, refused}
 use Rattle.wire.proofs.Cases.{by-test}
 use Rattle.wire.proofs.All.{Bytes}
+use Rattle.pid.specs.Lengths.{mode01Lengths}
 use Rattle.value.specs.Values.{Value, partFormat}
-use Rattle.value.proofs.RecordLaws.{ValuesFit, RecordFits}
+use Rattle.value.proofs.RecordLaws.{RecordFits}
 use Rattle.reply.specs.Reply.{replyText}
 use Rattle.reply_values.specs.Values.{answerOrder}
 use Rattle.reply_values.proofs.OrderLaws.{order-fit}
@@ -23,9 +25,9 @@ use Rattle.agreement.specs.Vehicle.{given}
 use Rattle.agreement.specs.Ends.{Reach, tooLong, reach, Limited}
 use Rattle.agreement.specs.Demand.{GoodQueries, givens, commandOf, commands}
 use Rattle.agreement.proofs.Started.{Between, started}
-use Rattle.agreement.proofs.Asked.{Ready, Outcome, outcome}
-use Rattle.agreement.proofs.Parts.{ordered, givenPart, part-size, given-fits}
-use Rattle.agreement.proofs.AnyQuery.{Quiet, Goes, goes-on, overlong, part-goes}
+use Rattle.agreement.proofs.Agree.{Agree, agree-fresh}
+use Rattle.agreement.proofs.Asked.{Ready, Gives, Fails, outcome}
+use Rattle.agreement.proofs.Parts.{ordered, part-size, given-fits}
 
 abbrev AllReady : List Query → Type 0
 AllReady [] = Unit {0}
@@ -73,35 +75,45 @@ take-first (suc n) zero vss h = absurd (omega arith)
 take-first (suc n) (suc k) [] h = refl
 take-first (suc n) (suc k) (vs ∷ vss) h = ap (λ wss. vs ∷ wss) (take-first n k vss (omega arith))
 
--- What is known of the runs of some queries, of which the first n are the demand's.
-pub record Known (n : ℕ) (qs : List Query) (run : ℕ → Run) : Type 0 where
-  pub limited : Limited qs run
-  pub fits : RecordFits (limited .values)
-  pub first : take n (limited .values) ≡ take n (ordered qs)
-  pub reached : (room : ℕ) → reach room qs (limited .values) .fit < n → reach room qs (limited .values) ≡ reach room qs (givens qs)
-  pub handed : (room : ℕ) → reach room qs (limited .values) .fit < n → run room .handed ≡ take (suc (reach room qs (limited .values) .fit)) (commands qs)
-  pub before : (room : ℕ) → n ≤ reach room qs (limited .values) .fit → take n (run room .handed) ≡ take n (commands qs)
-
-no-query : (n : ℕ) (b : Bench) → Known n [] (λ room. asked room b [])
-no-query n b = record {
-  limited = record { values = []; each = refl; parts = λ room. refl; answer = λ room. refl };
-  fits = tt;
-  first = refl;
-  reached = λ room h. refl;
-  handed = λ room h. refl;
-  before = λ room h. refl;
-}
-
-none-first : (n : ℕ) (xs ys : List (List ℕ)) → n ≤ 0 → take n xs ≡ take n ys
-none-first zero xs ys h = refl
-none-first (suc n) xs ys h = absurd (omega arith)
-
 pub length-ordered : (qs : List Query) → length (ordered qs) ≡ length qs
 length-ordered [] = refl
 length-ordered (q ∷ qs) = ap suc (length-ordered qs)
 
+-- where it ends among the first n queries, of which the values are what was given, it goes as far as what was given lets it
+pub reach-given : (n room : ℕ) (qs : List Query) (vss : List (List Value)) → length vss ≡ length qs → take n vss ≡ take n (ordered qs) → reach room qs vss .fit < n →
+    reach room qs vss ≡ reach room qs (givens qs)
+reach-given n room [] vss l e h = refl
+reach-given n room (q ∷ qs) [] l e h = absurd (omega arith)
+reach-given zero room (q ∷ qs) (vs ∷ vss) l e h = absurd (omega arith)
+reach-given (suc n) room (q ∷ qs) (vs ∷ vss) l e h =
+    let one : vs ≡ answerOrder (given (q .lines)) = cc in
+    let others : take n vss ≡ take n (ordered qs) = cc in
+    let size : length (partFormat .write vs) ≡ length (partFormat .write (given (q .lines))) = ap (λ vs. length (partFormat .write vs)) one ∙ sym (part-size q) in
+    by-test (tooLong q)
+    (λ t. rw t refl)
+    (λ t.
+    by-test (ltb room (length (partFormat .write vs)))
+    (λ f. let g = rw size at f in rw (t, f, g) refl)
+    (λ f.
+    let g = rw size at f in
+    let k = rw (t, f) at h in
+    let left = room - length (partFormat .write vs) in
+    let rest = reach-given n left qs vss (omega arith) others (omega arith) in
+    rw (t, f, g) (ap (λ (r : Reach). record { fit = suc (r .fit); answer = r .answer }) (rest ∙ ap (λ k. reach (room - k) qs (givens qs)) size))))
+
+-- What is known of the runs of some queries, by a client that knows some lengths: what ends them, that each query that ran was handed out under its own text, and that the
+-- values of the first n are what the vehicle gave, where these n are the demand's.
+pub record Known (lengths : List ℕ) (qs : List Query) (run : ℕ → Run) : Type 0 where
+  pub limited : Limited qs run
+  pub fits : RecordFits (limited .values)
+  pub handed : (room : ℕ) → run room .handed ≡ take (suc (reach room qs (limited .values) .fit)) (commands qs)
+  pub first : (L : ℕ → ℕ) (n : ℕ) → Agree L lengths → GoodQueries L (take n qs) → take n (limited .values) ≡ take n (ordered qs)
+
 -- a query, and then the others
 module _ (b : Bench) (q : Query) (qs : List Query) where
+  abbrev lengths : List ℕ
+  lengths = b .client .server .«pid_lengths»
+
   abbrev runs : ℕ → Run
   runs room = asked room b (q ∷ qs)
 
@@ -112,8 +124,9 @@ module _ (b : Bench) (q : Query) (qs : List Query) where
   reply = replyText false false true (q .lines)
 
   -- 8 ends the run
-  stops : (n : ℕ) → AllReady (q ∷ qs) → 4096 < length reply → part b q .answer ≡ refused 8 → (0 < n → part b q .handed ≡ commandOf q ∷ []) → Known n (q ∷ qs) runs
-  stops n ok m e h =
+  stops : AllReady (q ∷ qs) → 4096 < length reply → Fails q (part b q) → Known lengths (q ∷ qs) runs
+  stops ok m f =
+      let e = f .answer in
       let t : tooLong q ≡ true = lt-ltb 4096 (length reply) m in
       record {
         limited = record {
@@ -123,125 +136,84 @@ module _ (b : Bench) (q : Query) (qs : List Query) where
           answer = λ room. rw (e, t) refl;
         };
         fits = ready-fits (q ∷ qs) ok;
-        first = refl;
-        reached = λ room k. rw t refl;
-        handed = λ room k. let k′ = rw t at k in rw (e, t, h k′) refl;
-        before = λ room k. none-first n (runs room .handed) (commands (q ∷ qs)) (rw t at k);
+        handed = λ room. rw (e, t, f .handed) refl;
+        first = λ L n a good. refl;
       }
 
+  -- the first n of its values and the others'
+  first-values : (g : Gives lengths q (part b q)) (vss : List (List Value)) →
+      ((L : ℕ → ℕ) (n : ℕ) → Agree L (part b q .bench .client .server .«pid_lengths») → GoodQueries L (take n qs) → take n vss ≡ take n (ordered qs)) →
+      (L : ℕ → ℕ) (n : ℕ) → Agree L lengths → GoodQueries L (take n (q ∷ qs)) → take n (g .values ∷ vss) ≡ take n (ordered (q ∷ qs))
+  first-values g vss rest L zero a good = refl
+  first-values g vss rest L (suc n) a good =
+      let (same, agree) = g .gave L a (good .0) in
+      (λ i. same i ∷ rest L n agree (good .1) i)
+
   -- its part stands, or 6 ends the run
-  module _ (few : length reply ≤ 4096) (vs : List Value) (fit : ValuesFit vs) (e : part b q .answer ≡ result (partFormat .write vs)) where
-    abbrev bytes : List ℕ
-    bytes = partFormat .write vs
-
-    short : tooLong q ≡ false
-    short = le-ltb 4096 (length reply) few
-
-    goes : Limited qs others → Limited (q ∷ qs) runs
-    goes rest = record {
-      values = vs ∷ rest .values;
-      each = ap suc (rest .each);
-      parts = λ room.
-          by-test (ltb room (length bytes)) (λ t. rw (e, short, t) refl) (λ t. rw (e, short, t, rest .parts (room - length bytes)) refl);
-      answer = λ room.
-          by-test (ltb room (length bytes)) (λ t. rw (e, short, t) refl) (λ t. rw (e, short, t, rest .answer (room - length bytes)) refl);
-    }
-
-    goes-any : Known 0 qs others → Known 0 (q ∷ qs) runs
-    unfolding goes
-    goes-any rest = record {
-      limited = goes (rest .limited);
-      fits = (fit, rest .fits);
-      first = refl;
-      reached = λ room k. absurd (omega arith);
-      handed = λ room k. absurd (omega arith);
-      before = λ room k. refl;
-    }
-
-  -- a query of the demand
-  module _ (few : length reply ≤ 4096) (fit : ValuesFit (answerOrder (given (q .lines)))) (e : part b q .answer ≡ result (givenPart q)) (h : part b q .handed ≡ commandOf q ∷ []) where
-    goes-good : (n : ℕ) → Known n qs others → Known (suc n) (q ∷ qs) runs
-    unfolding goes
-    goes-good n rest =
-        let t = short few (answerOrder (given (q .lines))) fit e in
-        record {
-          limited = goes few (answerOrder (given (q .lines))) fit e (rest .limited);
-          fits = (fit, rest .fits);
-          first = ap (λ vss. answerOrder (given (q .lines)) ∷ vss) (rest .first);
-          reached = λ room k.
-              rw (part-size q)
-              (by-test (ltb room (length (givenPart q)))
-              (λ f. rw (t, f) refl)
-              (λ f.
-              let k′ = rw (t, f) at k in
-              let r = rest .reached (room - length (givenPart q)) (omega arith) in
-              rw (t, f) (ap (λ (r : Reach). record { fit = suc (r .fit); answer = r .answer }) r)));
-          handed = λ room k.
-              by-test (ltb room (length (givenPart q)))
-              (λ f. rw (e, h, t, f) refl)
-              (λ f.
-              let k′ = rw (t, f) at k in
-              let r = rest .handed (room - length (givenPart q)) (omega arith) in
-              rw (e, h, t, f) (ap (λ cs. commandOf q ∷ cs) r));
-          before = λ room k.
-              by-test (ltb room (length (givenPart q)))
-              (λ f. let k′ = rw (t, f) at k in absurd (omega arith))
-              (λ f.
-              let k′ = rw (t, f) at k in
-              let r = rest .before (room - length (givenPart q)) (omega arith) in
-              rw (e, h, f) (ap (λ cs. commandOf q ∷ cs) r));
-        }
+  goes : length reply ≤ 4096 → Gives lengths q (part b q) → Known (part b q .bench .client .server .«pid_lengths») qs others → Known lengths (q ∷ qs) runs
+  goes few g rest =
+      let e = g .answer in
+      let vs = g .values in
+      let bytes = partFormat .write vs in
+      let t : tooLong q ≡ false = le-ltb 4096 (length reply) few in
+      record {
+        limited = record {
+          values = vs ∷ rest .limited .values;
+          each = ap suc (rest .limited .each);
+          parts = λ room.
+              by-test (ltb room (length bytes)) (λ f. rw (e, t, f) refl) (λ f. rw (e, t, f, rest .limited .parts (room - length bytes)) refl);
+          answer = λ room.
+              by-test (ltb room (length bytes)) (λ f. rw (e, t, f) refl) (λ f. rw (e, t, f, rest .limited .answer (room - length bytes)) refl);
+        };
+        fits = (g .fit, rest .fits);
+        handed = λ room.
+            by-test (ltb room (length bytes))
+            (λ f. rw (e, g .handed, t, f) refl)
+            (λ f. rw (e, g .handed, t, f) (ap (λ cs. commandOf q ∷ cs) (rest .handed (room - length bytes))));
+        first = first-values g (rest .limited .values) (rest .first);
+      }
 
 -- ---- the list
 
-one-any : (b : Bench) (q : Query) (qs : List Query) → AllReady (q ∷ qs) → Goes (q .lines) (part b q) →
-    (Quiet (part b q .bench) → Known 0 qs (λ room. asked room (part b q .bench) qs)) → Known 0 (q ∷ qs) (λ room. asked room b (q ∷ qs))
-one-any b q qs ok (overlong m e) rest = stops b q qs 0 ok m e (λ h. absurd (omega arith))
-one-any b q qs ok (goes-on few vs fit e m) rest = goes-any b q qs few vs fit e (rest m)
-
-any-known : (b : Bench) (qs : List Query) → Quiet b → AllReady qs → Known 0 qs (λ room. asked room b qs)
-any-known b [] m ok = no-query 0 b
-any-known b (q ∷ qs) m ok = one-any b q qs ok (part-goes b q m (ok .0)) (λ n. any-known (part b q .bench) qs n (ok .1))
-
-between-quiet : (L : ℕ → ℕ) (b : Bench) → Between L b → Quiet b
-between-quiet L b m = record { turn = m .turn; size = m .size; last = m .last; short = m .short; server = m .server }
-
-one-good : (L : ℕ → ℕ) (n : ℕ) (b : Bench) (q : Query) (qs : List Query) → AllReady (q ∷ qs) → Outcome L q (part b q) →
-    (Between L (part b q .bench) → Known n qs (λ room. asked room (part b q .bench) qs)) → Known (suc n) (q ∷ qs) (λ room. asked room b (q ∷ qs))
-one-good L n b q qs ok o rest =
+list-known : (b : Bench) (qs : List Query) → Between b → AllReady qs → Known (b .client .server .«pid_lengths») qs (λ room. asked room b qs)
+list-known b [] m ok = record {
+  limited = record { values = []; each = refl; parts = λ room. refl; answer = λ room. refl };
+  fits = tt;
+  handed = λ room. refl;
+  first = λ L n a good. refl;
+}
+list-known b (q ∷ qs) m ok =
+    let o = outcome b q m (ok .0) in
     by-test (tooLong q)
-    (λ t. let m = ltb-true 4096 _ t in let f = o .fails m in stops b q qs (suc n) ok m (f .answer) (λ h. f .handed))
-    (λ t. let m = ltb-false 4096 _ t in let g = o .gives m in goes-good b q qs m (ready-fits (q ∷ qs) ok .0) (g .answer) (g .handed) n (rest (g .between)))
-
-list-known : (L : ℕ → ℕ) (n : ℕ) (b : Bench) (qs : List Query) → Between L b → AllReady qs → GoodQueries L (take n qs) → Known n qs (λ room. asked room b qs)
-list-known L zero b qs m ok good = any-known b qs (between-quiet L b m) ok
-list-known L (suc n) b [] m ok good = no-query (suc n) b
-list-known L (suc n) b (q ∷ qs) m ok good =
-    one-good L n b q qs ok (outcome L b q m (ok .0) (good .0 .0) (good .0 .1)) (λ m. list-known L n (part b q .bench) qs m (ok .1) (good .1))
+    (λ t. let h = ltb-true 4096 _ t in stops b q qs ok h (o .fails h))
+    (λ t. let h = ltb-false 4096 _ t in let g = o .gives h in goes b q qs h g (list-known (part b q .bench) qs (g .between) (ok .1)))
 
 -- ---- the run
 
 module _ (repeat : Bool) (ks s : List ℕ) (bytes : Bytes s) where
-  pub run-known : (L : ℕ → ℕ) (n : ℕ) (qs : List Query) → script s ≡ result qs → GoodQueries L (take n qs) → Known n qs (λ room. runSays repeat ks room s)
+  pub run-known : (qs : List Query) → script s ≡ result qs → Known mode01Lengths qs (λ room. runSays repeat ks room s)
   unfolding runSays
-  run-known L n qs e good =
-      let t = started L repeat ks in
-      rw (e, t .answer, t .handed) (list-known L n (initialised repeat ks .bench) qs (t .between) (script-ready s qs bytes e) good)
+  run-known qs e =
+      let t = started repeat ks in
+      rw (e, t .answer, t .handed)
+      (subst (λ lengths. Known lengths qs (λ room. asked room (initialised repeat ks .bench) qs)) (t .lengths)
+      (list-known (initialised repeat ks .bench) qs (t .between) (script-ready s qs bytes e)))
 
   -- where all queries are the demand's, the run comes to what the script alone tells: neither the piece lengths nor repeat come into it
   pub run-given : (L : ℕ → ℕ) (room : ℕ) (qs : List Query) → script s ≡ result qs → GoodQueries L (take (suc (length qs)) qs) →
       runSays repeat ks room s ≡ (let r = reach room qs (givens qs) in
       record { answer = r .answer; parts = map (partFormat .write) (take (r .fit) (ordered qs)); handed = take (suc (r .fit)) (commands qs) })
   run-given L room qs e good =
-      let k = run-known L (suc (length qs)) qs e good in
+      let k = run-known qs e in
       let vss = k .limited .values in
       let fit = reach room qs vss .fit in
-      let inside : fit < suc (length qs) = omega (arith, reach-few room qs vss, k .limited .each) in
-      let same = k .reached room inside in
-      let first : take fit vss ≡ take fit (ordered qs) =
-      sym (take-first fit (suc (length qs)) vss (omega arith)) ∙ ap (take fit) (k .first) ∙ take-first fit (suc (length qs)) (ordered qs) (omega arith) in
-      (λ i. record { answer = k .limited .answer room i; parts = (k .limited .parts room ∙ ap (map (partFormat .write)) first) i; handed = k .handed room inside i }) ∙
-      ap (λ (r : Reach). record { answer = r .answer; parts = map (partFormat .write) (take (r .fit) (ordered qs)); handed = take (suc (r .fit)) (commands qs) }) same
+      let n = suc (length qs) in
+      let inside : fit < n = omega (arith, reach-few room qs vss, k .limited .each) in
+      let all = k .first L n (agree-fresh L) good in
+      let first : take fit vss ≡ take fit (ordered qs) = sym (take-first fit n vss (omega arith)) ∙ ap (take fit) all ∙ take-first fit n (ordered qs) (omega arith) in
+      (λ i. record { answer = k .limited .answer room i; parts = (k .limited .parts room ∙ ap (map (partFormat .write)) first) i; handed = k .handed room i }) ∙
+      ap (λ (r : Reach). record { answer = r .answer; parts = map (partFormat .write) (take (r .fit) (ordered qs)); handed = take (suc (r .fit)) (commands qs) })
+      (reach-given n room qs vss (k .limited .each) all inside)
 
   -- a script that is refused is not run
   pub run-refused : (n room : ℕ) → script s ≡ refused n → runSays repeat ks room s ≡ ended n []

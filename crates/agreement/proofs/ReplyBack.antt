@@ -1,5 +1,5 @@
 -- The client reads back the lines that the server replied with, in the settings of a framed initialisation: linefeeds and spaces off, headers on. An unknown ECU
--- comes back as 7E8.
+-- comes back as 7E8, and NO DATA as a line without data.
 use mathlib.Core.Path.{_≡_, refl, sym, ap, _∙_}
 use mathlib.Core.Bool.{true, false}
 use mathlib.Core.List.{List, [], _∷_, _++_, map}
@@ -7,7 +7,9 @@ use Prim.Native.Nat.{ℕ, zero, suc, _≤_, _<_}
 use native.Mathlib.Omega.{arith}
 use lib.ListN.{length}
 use Rattle.group.specs.Format.{Each}
+use Rattle.wire.specs.Text.{has, isSpace}
 use Rattle.hex.specs.Digits.{hexDigits, hexByte, hexBytes}
+use Rattle.hex.specs.Read.{digit}
 use Rattle.line_list.specs.Lines.{Line, line, Fits}
 use Rattle.reply.specs.Shape.{chipReply}
 use Rattle.reply.specs.Reply.{ecuId, furtherHex, dataHex, lineText, replyText}
@@ -57,7 +59,16 @@ decoded (l ∷ ls) f b =
     let one = ap (textLine true) (line-as l) ∙ framed-back (ecuId (l .ecu)) (length (l .bytes)) (l .bytes) (id-small (l .ecu) (f .0 .known)) (b .0) in
     (λ i. one i ∷ decoded ls (f .1) (b .1) i)
 
--- what was replied is read back
-pub reply-back : (l : Line) (ls : List Line) → Each Fits (l ∷ ls) → AllBytes (l ∷ ls) → replyLines true (replyText false false true (l ∷ ls)) ≡ map known (l ∷ ls)
+-- the lines that the client reads: those of the vehicle, each with its ECU known; and of NO DATA one of ECU 000, without data (card 3)
+abbrev pub linesBack : List Line → List Line
+linesBack [] = line 1 [] ∷ []
+linesBack (l ∷ ls) = map known (l ∷ ls)
+
+no-data : replyLines true (replyText false false true []) ≡ linesBack []
+unfolding replyText replyLines textLines textLine has isSpace digit
+no-data = refl
+
+pub reply-back : (ls : List Line) → Each Fits ls → AllBytes ls → replyLines true (replyText false false true ls) ≡ linesBack ls
 unfolding replyText replyLines
-reply-back l ls f b = ap (map (textLine true)) (texts (l ∷ ls)) ∙ decoded (l ∷ ls) f b
+reply-back [] f b = no-data
+reply-back (l ∷ ls) f b = ap (map (textLine true)) (texts (l ∷ ls)) ∙ decoded (l ∷ ls) f b

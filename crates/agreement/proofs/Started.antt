@@ -9,6 +9,7 @@ use lib.ListN.{length, length-replicate}
 use lib.Seq.{sets, length-sets}
 use Rattle.wire.specs.Answer.{result, unless}
 use Rattle.wire.specs.Text.{ascii, has, high}
+use Rattle.pid.specs.Lengths.{mode01Lengths}
 use Rattle.server_state.specs.State.{withFraming}
 use Rattle.reply_lines.specs.Lines.{unspaced}
 use Rattle.server_session.specs.Session.{Session}
@@ -24,7 +25,6 @@ use Rattle.client_session.proofs.PiecesLaws.{Plainly, prompted}
 use Rattle.bench.specs.Exchange.{Exchanged, exchanged}
 use Rattle.bench.specs.Run.{sendRoom, replyRoom, freshStore, Bench, Round, round, onward, reset, roundWith, initialised}
 use Rattle.bench.specs.Steps.{Delivered, delivered}
-use Rattle.agreement.proofs.Agree.{Agree, agree-fresh}
 use Rattle.agreement.proofs.Heard.{quiet, during, reset-heard, echo-off-heard, linefeeds-off-heard, spaces-off-heard, protocol-heard, headers-on-heard}
 use Rattle.agreement.proofs.Arrive.{arrives}
 
@@ -69,15 +69,12 @@ module _ (k : Command) (b : Bench) (command list : List ℕ) (x : Exchanged) (bo
         handed = x .handed;
       })
 
--- The sessions between queries, in a run in which a PID p outside the table has the length L p.
-pub record Between (L : ℕ → ℕ) (b : Bench) : Type 0 where
+-- The sessions between queries: the server's last command is the client's last query less spaces.
+pub record Between (b : Bench) : Type 0 where
   pub turn : b .client .under ≡ Idle
   pub framing : b .client .server .framing ≡ true
-  pub agree : Agree L (b .client .server .«pid_lengths»)
   pub size : 4096 ≤ length (b .store)
-  -- the server's last command is the client's last query less spaces
   pub last : List ℕ
-  pub short : length last ≤ 128
   pub server : b .server ≡ quiet last
   pub linked : 0 < length (b .client .last) → last ≡ unspaced (b .client .last)
 
@@ -123,15 +120,17 @@ begins repeat ks =
     let i = initSays sendRoom (freshClient true repeat) in
     ap (λ (x : Exchanged). onward 5 (reset i x ks) []) reset-heard
 
-pub record Started (L : ℕ → ℕ) (t : Round) : Type 0 where
+-- The sessions stand between queries, and no length has been learned.
+pub record Started (t : Round) : Type 0 where
   pub answer : t .answer ≡ result over
   pub handed : t .handed ≡ []
-  pub between : Between L (t .bench)
+  pub between : Between (t .bench)
+  pub lengths : t .bench .client .server .«pid_lengths» ≡ mode01Lengths
 
-module _ (L : ℕ → ℕ) (repeat : Bool) (ks : List ℕ) where
+module _ (repeat : Bool) (ks : List ℕ) where
   -- the last of the five has set framing as it was asked for
   ends : (n : ℕ) (store ks : List ℕ) → 4096 ≤ length store →
-      Started L (record {
+      Started (record {
         answer = result over;
         text = [];
         bench = record {
@@ -145,10 +144,11 @@ module _ (L : ℕ → ℕ) (repeat : Bool) (ks : List ℕ) where
   ends n store ks size = record {
     answer = refl;
     handed = refl;
-    between = record { turn = refl; framing = refl; agree = agree-fresh L; size = size; last = []; short = omega arith; server = refl; linked = λ h. absurd (omega arith) };
+    between = record { turn = refl; framing = refl; size = size; last = []; server = refl; linked = λ h. absurd (omega arith) };
+    lengths = refl;
   }
 
-  pub started : Started L (initialised repeat ks)
+  pub started : Started (initialised repeat ks)
   started =
       let ok = ascii "OK\r\r" in
       let s₁ = sets freshStore 0 (prompted (ascii "ATE0\rOK\r\n\r\n")) in
@@ -165,4 +165,4 @@ module _ (L : ℕ → ℕ) (repeat : Bool) (ks : List ℕ) where
       let e₄ = answers 1 repeat 3 (ascii "ATSP0\r") s₃ (during false false false false) _ _ ok protocol-heard ok-plainly z₃ refl in
       let e₅ = answers 0 repeat 4 (ascii "ATH1\r") s₄ (during false false false false) _ _ ok headers-on-heard ok-plainly z₄ refl in
       let e : initialised repeat ks ≡ _ = begins repeat ks ∙ e₁ ∙ e₂ ∙ e₃ ∙ e₄ ∙ e₅ in
-      subst (Started L) (sym e) (ends 5 (sets s₄ 0 (prompted ok)) _ (store-size s₄ (prompted ok) z₄))
+      subst Started (sym e) (ends 5 (sets s₄ 0 (prompted ok)) _ (store-size s₄ (prompted ok) z₄))

@@ -39,8 +39,8 @@ use Rattle.bench.specs.Deliver.{pieces}
 use Rattle.bench.specs.declared.RunAnswer.the-variants.{Complete, Refused}
 use Rattle.bench.specs.Run.{initialised, part, Run, runSays, runLent}
 use Rattle.agreement.specs.Vehicle.{SameValues}
-use Rattle.agreement.specs.Lines.{end, next, alone, table, GoodLine}
-use Rattle.agreement.specs.Demand.{GoodQuery, GoodQueries, givens, firstParts, Drive, drive, comesTo, Ran, hireRecord, GoodFirst, GoodAll, EveryFits}
+use Rattle.agreement.specs.Lines.{end, next, alone, table, GoodLine, GoodLines}
+use Rattle.agreement.specs.Demand.{GoodQueries, givens, firstParts, Drive, drive, comesTo, Ran, hireRecord, GoodFirst, GoodAll, EveryFits}
 use Rattle.agreement.specs.Ends.{reach}
 use Rattle.agreement.proofs.Ran.{run-given}
 use Rattle.agreement.proofs.Agreement.{agreement}
@@ -153,17 +153,17 @@ ended8 = drive true [] (scriptOf long) (replicate 10 0) ((1 ∷ engineValue 0xF8
 -- ---- the premises
 
 module _ (L : ℕ → ℕ) where
-  pub good-engine : (ecu low : ℕ) → GoodQuery L (engine ecu low)
+  pub good-engine : (ecu low : ℕ) → GoodLines L (engine ecu low .lines)
   unfolding j1979
-  good-engine ecu low = (omega arith, ((_, refl, table _ _ (next 0x0C (0x1A ∷ low ∷ []) [] _ refl refl end)), tt))
+  good-engine ecu low = ((_, refl, table _ _ (next 0x0C (0x1A ∷ low ∷ []) [] _ refl refl end)), tt)
 
   good-long : L 0xE1 ≡ 253 → GoodLine L longLine
   unfolding j1979
   good-long e = (_, refl, alone 0xE1 (replicate 253 7) refl (sym e))
 
-pub good-own : GoodQuery (λ p. 3) own
+pub good-own : GoodLines (λ p. 3) (own .lines)
 unfolding j1979
-good-own = (omega arith, ((_, refl, alone 0xE0 (1 ∷ 2 ∷ 3 ∷ []) refl refl), tt))
+good-own = ((_, refl, alone 0xE0 (1 ∷ 2 ∷ 3 ∷ []) refl refl), tt)
 
 pub good-unknown : GoodQueries (λ p. 3) unknown
 unfolding j1979
@@ -172,7 +172,7 @@ good-unknown = (
   (
     good-engine (λ p. 3) 0 0xF8,
     (
-      (omega arith, ((_, refl, table _ _ (next 0x0C (0x1A ∷ 0xF8 ∷ []) _ _ refl refl (next 0x0D (0x20 ∷ []) [] _ refl refl end))), tt)),
+      ((_, refl, table _ _ (next 0x0C (0x1A ∷ 0xF8 ∷ []) _ _ refl refl (next 0x0D (0x20 ∷ []) [] _ refl refl end))), tt),
       (good-own, tt),
     ),
   ),
@@ -185,7 +185,7 @@ good-known low = (
   (
     good-engine (λ p. 3) 0x7E9 0xF8,
     (
-      (omega arith, ((_, refl, table _ _ (next 0x0D (0x20 ∷ []) _ _ refl refl (next 0x0C (0x1A ∷ 0xF8 ∷ []) [] _ refl refl end))), tt)),
+      ((_, refl, table _ _ (next 0x0D (0x20 ∷ []) _ _ refl refl (next 0x0C (0x1A ∷ 0xF8 ∷ []) [] _ refl refl end))), tt),
       (good-own, tt),
     ),
   ),
@@ -194,7 +194,7 @@ good-known low = (
 pub good-8 : GoodQueries (λ p. 253) long
 good-8 =
     let l = good-long (λ p. 253) refl in
-    (good-engine (λ p. 253) 0 0xF8, ((omega arith, (l, (l, (l, (l, (l, (l, (l, (l, tt))))))))), (good-engine (λ p. 253) 0 0xF8, tt)))
+    (good-engine (λ p. 253) 0 0xF8, ((l, (l, (l, (l, (l, (l, (l, (l, tt)))))))), (good-engine (λ p. 253) 0 0xF8, tt)))
 
 -- the run that 8 ends, by the laws: to compute it step by step takes too long
 long-reads : script (scriptOf long) ≡ result long
@@ -333,16 +333,16 @@ module _ (L : ℕ → ℕ) where
   good-speed-line ecu a = (_, refl, table _ _ (next 0x0D (a ∷ []) [] _ refl refl end))
 
 good-by-line : GoodAll byLine
-good-by-line = let L : (ℕ → ℕ) = λ p. 0 in good-all by-line-run L ((omega arith, (good-7E9 L, (good-7E8 L, tt))), tt)
+good-by-line = let L : (ℕ → ℕ) = λ p. 0 in good-all by-line-run L ((good-7E9 L, (good-7E8 L, tt)), tt)
 
 good-by-pid : GoodAll byPid
 good-by-pid =
     let L : (ℕ → ℕ) = λ p. 0 in
     good-all by-pid-run L
-    ((omega arith, (good-engine-line L 0x7EA 0x1A 0xF8, (good-engine-line L 0x7E9 0 1, (good-speed-line L 0x7EA 0x20, (good-speed-line L 0x7E9 0x21, tt))))), tt)
+    ((good-engine-line L 0x7EA 0x1A 0xF8, (good-engine-line L 0x7E9 0 1, (good-speed-line L 0x7EA 0x20, (good-speed-line L 0x7E9 0x21, tt)))), tt)
 
 good-turned : GoodAll turned
-good-turned = let L : (ℕ → ℕ) = λ p. 0 in good-all turned-run L ((omega arith, (good-7E8 L, (good-7E9 L, tt))), tt)
+good-turned = let L : (ℕ → ℕ) = λ p. 0 in good-all turned-run L ((good-7E8 L, (good-7E9 L, tt)), tt)
 
 -- the values of each PID, of 7E9 and of 7E8, as the first two vehicles sent them
 regrouped : SameValues
@@ -379,7 +379,7 @@ two-stand =
     let holds = agreement first lastUnasked (first-run .ran) (unasked-run .ran) .before 2 (omega arith) (omega arith)
     (good-first first-run (λ p. 3) 2 (good-engine (λ p. 3) 0 0xF8, (good-engine (λ p. 3) 0 0xF8, tt)))
     (good-first unasked-run (λ p. 3) 2 (good-engine (λ p. 3) 0 0xF8, (good-engine (λ p. 3) 0 0xF8, tt))) in
-    holds .equal .1 (rw (first-run .reads, unasked-run .reads) ((λ p. refl), ((λ p. refl), tt)))
+    holds .1 (rw (first-run .reads, unasked-run .reads) ((λ p. refl), ((λ p. refl), tt)))
 
 one-stands : firstParts 1 (hireRecord first) ≡ firstParts 1 (hireRecord ended8)
 unfolding readRecord valueFormat
@@ -387,4 +387,4 @@ one-stands =
     let holds = agreement first ended8 (first-run .ran) (ended8-run .ran) .before 1 (omega arith) (omega arith)
     (good-first first-run (λ p. 3) 1 (good-engine (λ p. 3) 0 0xF8, tt))
     (good-first ended8-run (λ p. 3) 1 (good-engine (λ p. 3) 0 0xF8, tt)) in
-    holds .equal .1 (rw (first-run .reads, ended8-run .reads) ((λ p. refl), tt))
+    holds .1 (rw (first-run .reads, ended8-run .reads) ((λ p. refl), tt))

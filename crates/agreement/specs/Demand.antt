@@ -22,14 +22,11 @@ use Rattle.agreement.specs.Lines.{GoodLines}
 use Rattle.agreement.specs.Vehicle.{given, SameQueries}
 use Rattle.agreement.specs.Ends.{Reach, stopped, reach}
 
--- "Every query brings a line list of one line or more"; "A line is 41 and one or more PID values of the table's length; a PID outside the table stands alone on
--- its line, with one length throughout its run", here L
-abbrev pub GoodQuery : (ℕ → ℕ) → Query → Type 0
-GoodQuery L q = (0 < length (q .lines)) × GoodLines L (q .lines)
-
+-- "A line is 41 and one or more PID values of the table's length; a PID outside the table stands alone on its line, with one length throughout its run", here L. Of "Every
+-- query brings a line list of one line or more" document 02 §13 ends "of one line or more": "Hire records may now include queries without any line"
 abbrev pub GoodQueries : (ℕ → ℕ) → List Query → Type 0
 GoodQueries L [] = Unit {0}
-GoodQueries L (q ∷ qs) = GoodQuery L q × GoodQueries L qs
+GoodQueries L (q ∷ qs) = GoodLines L (q .lines) × GoodQueries L qs
 
 -- what a vehicle gave, query by query
 abbrev pub givens : List Query → List (List Value)
@@ -102,10 +99,14 @@ reaches d = ifResult (script (d .scriptBytes)) stopped (λ qs. reach (length (d 
 abbrev pub EveryFits : Drive → Type 0
 EveryFits d = reaches d .answer ≡ result tt
 
--- What holds of any run: all parts that it wrote are read, and they are the whole record.
-pub record Reads (d : Drive) : Type 0 where
+-- What holds of any run, whatever its lines.
+pub record AnyRun (d : Drive) : Type 0 where
+  -- all parts that it wrote are read, and they are the whole record
   pub each : partsStanding d ≡ length (comesTo d .parts)
   pub all : firstParts (partsStanding d) (hireRecord d) ≡ hireRecord d
+  -- "the OBD commands handed to the vehicle are exactly the queries' own texts less spaces, one for each query in the list's order, repeats included", with lines or
+  -- without: "each is still handed out under its own text" (document 02 §13). Where 8 or 6 ends the run, up to the query that ended it
+  pub handed : comesTo d .handed ≡ take (suc (partsStanding d)) (commands (queries d))
 
 -- What holds of a run whose queries, as far as they ran, are the demand's.
 pub record Holds (d : Drive) : Type 0 where
@@ -116,26 +117,22 @@ pub record Holds (d : Drive) : Type 0 where
   pub whole : EveryFits d → partsStanding d ≡ length (queries d)
   -- a part's values are those that the vehicle gave, "by rising PID, and within a PID in reply order" (document 02 §1)
   pub values : listOf (readRecord (hireRecord d)) ≡ take (partsStanding d) (map answerOrder (givens (queries d)))
-  -- "the OBD commands handed to the vehicle are exactly the queries' own texts less spaces, one for each query in the list's order, repeats included"; where 8 or
-  -- 6 ends the run, up to the query that ended it
-  pub handed : comesTo d .handed ≡ take (suc (partsStanding d)) (commands (queries d))
 
--- What holds of two runs whose first n queries are the demand's, and have their parts.
-pub record HoldsFirst (n : ℕ) (d e : Drive) : Type 0 where
-  -- "equality of bytes" (document 02 §1), of those of the first n parts
-  pub equal : (firstParts n (hireRecord d) ≡ firstParts n (hireRecord e)) ↔ SameQueries (take n (givens (queries d))) (take n (givens (queries e)))
-  pub handedOne : take n (comesTo d .handed) ≡ take n (commands (queries d))
-  pub handedTwo : take n (comesTo e .handed) ≡ take n (commands (queries e))
+-- "the two hire records are equal exactly when the two vehicles gave every query the same values in the same order, PID by PID"; "its equality of records becomes
+-- equality of bytes, and so does the third demand" (document 02 §1); "no values on one side matches only no values on the other" (document 02 §13)
+abbrev pub Equal : Drive → Drive → Type 0
+Equal d e = (hireRecord d ≡ hireRecord e) ↔ SameQueries (givens (queries d)) (givens (queries e))
+
+-- the same of the first n parts and of the first n queries
+abbrev pub EqualFirst : ℕ → Drive → Drive → Type 0
+EqualFirst n d e = (firstParts n (hireRecord d) ≡ firstParts n (hireRecord e)) ↔ SameQueries (take n (givens (queries d))) (take n (givens (queries e)))
 
 -- What holds of two runs.
 pub record Agreement (d e : Drive) : Type 0 where
-  pub readsOne : Reads d
-  pub readsTwo : Reads e
+  pub anyOne : AnyRun d
+  pub anyTwo : AnyRun e
   pub one : GoodRan d → Holds d
   pub two : GoodRan e → Holds e
-  -- "the two hire records are equal exactly when the two vehicles gave every query the same values in the same order, PID by PID"; "its equality of records becomes
-  -- equality of bytes, and so does the third demand" (document 02 §1)
-  pub equal : GoodAll d → GoodAll e → EveryFits d → EveryFits e →
-      (hireRecord d ≡ hireRecord e) ↔ SameQueries (givens (queries d)) (givens (queries e))
+  pub equal : GoodAll d → GoodAll e → EveryFits d → EveryFits e → Equal d e
   -- "Where 8 or 6 ends a run, the claim holds, in both runs, of the queries before that point, whose parts stand" (document 01)
-  pub before : (n : ℕ) → n ≤ partsStanding d → n ≤ partsStanding e → GoodFirst n d → GoodFirst n e → HoldsFirst n d e
+  pub before : (n : ℕ) → n ≤ partsStanding d → n ≤ partsStanding e → GoodFirst n d → GoodFirst n e → EqualFirst n d e
