@@ -61,6 +61,7 @@ use Rattle.agreement.proofs.Witness.{
   ended6-run,
   ended8,
   ended8-run,
+  vehicle,
 }
 
 -- how many data bytes the first value has
@@ -73,10 +74,7 @@ abbrev byteOf : List Value → ℕ
 byteOf [] = 0
 byteOf (v ∷ vs) = getD (v .bytes) 0 0
 
--- a query of vehicle speed, and one of the maker's own PID
-abbrev vehicle : List Line → Query
-vehicle ls = query (0x0D ∷ []) 0 ls
-
+-- a query of the maker's own PID
 abbrev makers : List Line → Query
 makers ls = query (0xE0 ∷ []) 0 ls
 

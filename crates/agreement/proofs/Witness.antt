@@ -1,5 +1,5 @@
 -- The premises of demand 3 can be met: runs of one list of four queries, of which the second repeats the first, the third is answered by two PIDs on one line and the
--- fourth asks for a PID outside the table.
+-- fourth asks for a PID outside the table; of one query of two PIDs; and of lists with queries without lines.
 use mathlib.Core.Path.{_≡_, refl, sym, ap}
 use mathlib.Core.Bool.{true, false}
 use mathlib.Core.List.{List, [], _∷_, _++_}
@@ -369,6 +369,89 @@ other-ecu h =
     let same = agreement byLine turned (by-line-run .ran) (turned-run .ran) .equal good-by-line good-turned (fits by-line-run refl) (fits turned-run refl) in
     let e : _≡_ {A = ℕ} 0x7EA 0x7E9 = ap ecuOf ((rw (by-line-run .reads, turned-run .reads) at (same .0 h)) .0 0x0C) in
     absurd (omega arith)
+
+-- ---- queries without lines (document 02 §13)
+
+-- vehicle speed is asked for four times: first of all and unanswered, after engine speed and unanswered, again, and again, with an answer
+abbrev pub vehicle : List Line → Query
+vehicle ls = query (0x0D ∷ []) 0 ls
+
+abbrev silent : ℕ → List Line → List Query
+silent ecu ls = vehicle [] ∷ engine ecu 0xF8 ∷ vehicle [] ∷ vehicle ls ∷ vehicle (speedLine ecu 0x20 ∷ []) ∷ []
+
+-- with repeat on
+abbrev silentRun : Drive
+silentRun = drive true [] (scriptOf (silent 0 [])) (replicate 20 0) ((0 ∷ 1 ∷ engineValue 0xF8) ++ (0 ∷ 0 ∷ 1 ∷ speedValue)) (record { answer = Complete; written = 20 })
+
+silent-run : Computed silentRun (silent 0 []) (ascii "010D" ∷ ascii "010C1" ∷ ascii "010D" ∷ ascii "010D" ∷ ascii "010D" ∷ [])
+unfolding has high isSpace raised hexDigit digit j1979 mode01Lengths groupBytes lineList valueFormat atKind lineText replyText canonical
+    unless byteTaken byteSays bytesSay answerSays replySays queryText textLines textLine replyLines walked answerOrder learnLength initSays querySays
+    replyTakes pieceSays finishSays script queryFormat exchanged pieces initialised part runSays
+silent-run = record { ran = record { bytes = low-at (silentRun .scriptBytes) refl; ran = refl }; reads = refl; handed = refl }
+
+-- with repeat off, other pieces, and a known ECU
+abbrev silentOff : Drive
+silentOff =
+    drive false (1 ∷ 2 ∷ 0 ∷ 200 ∷ 3 ∷ []) (scriptOf (silent 0x7E9 [])) (replicate 21 0) ((0 ∷ 1 ∷ engineValue 0xF8) ++ (0 ∷ 0 ∷ 1 ∷ speedValue) ++ (0 ∷ []))
+    (record { answer = Complete; written = 20 })
+
+silent-off-run : Computed silentOff (silent 0x7E9 []) (ascii "010D" ∷ ascii "010C1" ∷ ascii "010D" ∷ ascii "010D" ∷ ascii "010D" ∷ [])
+unfolding has high isSpace raised hexDigit digit j1979 mode01Lengths groupBytes lineList valueFormat atKind lineText replyText canonical
+    unless byteTaken byteSays bytesSay answerSays replySays queryText textLines textLine replyLines walked answerOrder learnLength initSays querySays
+    replyTakes pieceSays finishSays script queryFormat exchanged pieces initialised part runSays
+silent-off-run = record { ran = record { bytes = low-at (silentOff .scriptBytes) refl; ran = refl }; reads = refl; handed = refl }
+
+-- with an answer to the fourth query
+abbrev spoken : Drive
+spoken =
+    drive true [] (scriptOf (silent 0 (speedLine 0 0x20 ∷ []))) (replicate 27 0) ((0 ∷ 1 ∷ engineValue 0xF8) ++ (0 ∷ 1 ∷ speedValue) ++ (1 ∷ speedValue))
+    (record { answer = Complete; written = 27 })
+
+spoken-run : Computed spoken (silent 0 (speedLine 0 0x20 ∷ [])) (ascii "010D" ∷ ascii "010C1" ∷ ascii "010D" ∷ ascii "010D" ∷ ascii "010D" ∷ [])
+unfolding has high isSpace raised hexDigit digit j1979 mode01Lengths groupBytes lineList valueFormat atKind lineText replyText canonical
+    unless byteTaken byteSays bytesSay answerSays replySays queryText textLines textLine replyLines walked answerOrder learnLength initSays querySays
+    replyTakes pieceSays finishSays script queryFormat exchanged pieces initialised part runSays
+spoken-run = record { ran = record { bytes = low-at (spoken .scriptBytes) refl; ran = refl }; reads = refl; handed = refl }
+
+good-silent : (L : ℕ → ℕ) (ecu : ℕ) (ls : List Line) → GoodLines L ls → GoodQueries L (silent ecu ls)
+good-silent L ecu ls g = (tt, (good-engine L ecu 0xF8, (tt, (g, ((good-speed-line L ecu 0x20, tt), tt)))))
+
+-- the first two records have the same bytes
+silent-same : hireRecord silentRun ≡ hireRecord silentOff
+unfolding lineText replyText hexDigit valueFormat groupBytes j1979
+silent-same =
+    let L : (ℕ → ℕ) = λ p. 0 in
+    let same = agreement silentRun silentOff (silent-run .ran) (silent-off-run .ran) .equal (good-all silent-run L (good-silent L 0 [] tt))
+    (good-all silent-off-run L (good-silent L 0x7E9 [] tt)) (fits silent-run refl) (fits silent-off-run refl) in
+    same .1 (rw (silent-run .reads, silent-off-run .reads) ((λ p. refl), ((λ p. refl), ((λ p. refl), ((λ p. refl), ((λ p. refl), tt))))))
+
+-- and the third has others, since "no values on one side matches only no values on the other"
+silent-other : hireRecord silentRun ≡ hireRecord spoken → ⊥
+unfolding lineText replyText hexDigit valueFormat groupBytes j1979
+silent-other h =
+    let L : (ℕ → ℕ) = λ p. 0 in
+    let same = agreement silentRun spoken (silent-run .ran) (spoken-run .ran) .equal (good-all silent-run L (good-silent L 0 [] tt))
+    (good-all spoken-run L (good-silent L 0 (speedLine 0 0x20 ∷ []) (good-speed-line L 0 0x20, tt))) (fits silent-run refl) (fits spoken-run refl) in
+    let e : _≡_ {A = ℕ} 0 1 = ap length ((rw (silent-run .reads, spoken-run .reads) at (same .0 h)) .1 .1 .1 .0 0x0D) in
+    absurd (omega arith)
+
+-- two such queries in a record of one byte: 6 comes at the second part, `00`, and what stands agrees with the longer run
+abbrev silentFull : Drive
+silentFull = drive true [] (scriptOf (vehicle [] ∷ vehicle [] ∷ [])) (0 ∷ []) (0 ∷ []) (record { answer = Refused refusal.SmallBuffer; written = 1 })
+
+silent-full-run : Computed silentFull (vehicle [] ∷ vehicle [] ∷ []) (ascii "010D" ∷ ascii "010D" ∷ [])
+unfolding has high isSpace raised hexDigit digit j1979 mode01Lengths groupBytes lineList valueFormat atKind lineText replyText canonical
+    unless byteTaken byteSays bytesSay answerSays replySays queryText textLines textLine replyLines walked answerOrder learnLength initSays querySays
+    replyTakes pieceSays finishSays script queryFormat exchanged pieces initialised part runSays
+silent-full-run = record { ran = record { bytes = low-at (silentFull .scriptBytes) refl; ran = refl }; reads = refl; handed = refl }
+
+none-stands : firstParts 1 (hireRecord silentRun) ≡ firstParts 1 (hireRecord silentFull)
+unfolding readRecord valueFormat
+none-stands =
+    let L : (ℕ → ℕ) = λ p. 0 in
+    let holds = agreement silentRun silentFull (silent-run .ran) (silent-full-run .ran) .before 1 (omega arith) (omega arith)
+    (good-first silent-run L 1 (tt, tt)) (good-first silent-full-run L 1 (tt, tt)) in
+    holds .1 (rw (silent-run .reads, silent-full-run .reads) ((λ p. refl), tt))
 
 -- ---- runs that ended early
 

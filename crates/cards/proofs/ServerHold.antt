@@ -13,7 +13,7 @@ use Rattle.server_session.specs.Bytes.{canonical, byteTaken, byteSays, bytesSay
 use Rattle.server_session.specs.Replies.{answerSays, replySays, rejectSays}
 use Rattle.bench.specs.Exchange.{exchanged}
 use Rattle.cards.specs.Example.{AsExpected}
-use Rattle.cards.specs.Server.{serverExamples}
+use Rattle.cards.specs.Server.{serverExamples, repeats}
 use Rattle.cards.proofs.ExampleLaws.{_&_}
 
 pub server-holds : AsExpected serverExamples
@@ -22,3 +22,7 @@ server-holds =
     refl & refl & refl & refl & refl & refl & refl & refl & refl & refl &
     refl & refl & refl & refl & refl & refl & refl & refl & refl & refl &
     refl & refl & refl & refl & refl & refl & refl & refl & refl & tt
+
+pub repeats-hold : AsExpected repeats
+unfolding high isSpace raised hexDigit lineList atKind lineText replyText canonical unless byteTaken byteSays bytesSay answerSays replySays rejectSays
+repeats-hold = refl & refl & refl & refl & refl & refl & refl & refl & refl & refl & refl & tt

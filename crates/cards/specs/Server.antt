@@ -4,7 +4,7 @@ use mathlib.Core.List.{List, [], _∷_, _++_, map}
 use Prim.Native.Nat.{ℕ, _-_}
 use Prim.Native.String.{String}
 use lib.ListN.{length, replicate}
-use Rattle.wire.specs.Answer.{result, refused, number}
+use Rattle.wire.specs.Answer.{Answer, result, refused, number}
 use Rattle.wire.specs.Put.{countWritten}
 use Rattle.wire.specs.declared.Count.the-variants as count
 use Rattle.wire.specs.declared.Refusal.the-variants.{OutOfTurn, PidCount, TooLong, NotAscii, Malformed, SmallBuffer, Disconnected, ReplyTooLong, ReplyNotAscii, LineFull, ByteNotAscii}
@@ -83,7 +83,7 @@ serverExamples =
     example "then CR hands it out again" (afterLine afterReply "" .phase ∷ []) (ObdCommand ∷ []) ∷
     example "as it was" (afterLine afterReply "" .line) (ascii "010D") ∷
     example "no lines" (replySays 64 (afterLine afterReply "010C") [] .text) (withPrompt "NO DATA") ∷
-    example "the last command remains" (replySays 64 (afterLine afterReply "010C") [] .next .state .last) (ascii "010D") ∷
+    example "its command becomes the last one too" (replySays 64 (afterLine afterReply "010C") [] .next .state .last) (ascii "010C") ∷
     example "a rejection" (rejectSays 64 (afterLine afterReply "010C") (ascii "UNABLE TO CONNECT") .text) (withPrompt "UNABLE TO CONNECT") ∷
     example "it leaves the last command" (rejectSays 64 (afterLine afterReply "010C") (ascii "?") .next .state .last) (ascii "010D") ∷
     example "rejections out of turn, too long, not ASCII, and with little room"
@@ -115,4 +115,44 @@ serverExamples =
     example "an exchange" (exchanged 60 freshSession (ascii "AT@1\r") speedLine) (record { next = freshSession; text = withPrompt "AT@1\rELM327"; handed = [] }) ∷
     example "what an exchange sends for a query" (exchanged 60 freshSession (ascii "010D\r") speedLine .text) (withPrompt "010D\r41 0D 20") ∷
     example "and hands out" (exchanged 60 freshSession (ascii "010D\r") speedLine .handed) (ascii "010D" ∷ []) ∷
+    []
+
+-- ---- document 02 §13: "a query answered NO DATA now becomes the server's last command too; a rejected one still doesn't"
+
+-- the session after a command line and NO DATA
+abbrev afterNoData : Session → String → Session
+afterNoData s t = replySays 64 (afterLine s t) [] .next
+
+-- the command that a bare CR hands out; none where `?` is written
+abbrev byCR : Session → List ℕ
+byCR s = afterLine s "" .line
+
+-- the answer of a reply with some room, and the last command then
+abbrev replyLeaves : ℕ → Session → List ℕ → Answer Phase × List ℕ
+replyLeaves room s list = let d = replySays room s list in (d .answer, d .next .state .last)
+
+abbrev pub repeats : List Example
+repeats =
+    example "0D answered, 0C not: CR hands out 0C" (byCR (afterNoData afterReply "010C")) (ascii "010C") ∷
+    example "a first query without an answer is handed out again" (byCR (afterNoData freshSession "010D")) (ascii "010D") ∷
+    example "as its command, without spaces and in capitals" (byCR (afterNoData freshSession " 01 0d")) (ascii "010D") ∷
+    example "one of 128 bytes whole" (byCR (replySays 64 (bytesSay 200 freshSession (replicate 128 50 ++ (13 ∷ [])) .next) [] .next)) (replicate 128 50) ∷
+    example "and once more, when that is answered NO DATA or with a line"
+    (byCR (afterNoData (afterNoData freshSession "010D") "") ∷ byCR (replySays 64 (afterLine (afterNoData freshSession "010D") "") speedLine .next) ∷ [])
+    (ascii "010D" ∷ ascii "010D" ∷ []) ∷
+    example "0C rejected, also with the text NO DATA: CR hands out 0D"
+    (map (λ (t : List ℕ). byCR (rejectSays 64 (afterLine afterReply "010C") t .next)) (ascii "NO DATA" ∷ ascii "?" ∷ [] ∷ [])) (ascii "010D" ∷ ascii "010D" ∷ ascii "010D" ∷ []) ∷
+    example "a first query rejected with NO DATA: CR is unknown"
+    (bytesSay 64 (rejectSays 64 (afterLine freshSession "010D") (ascii "NO DATA") .next) (13 ∷ []) .text) (withPrompt "\r?") ∷
+    example "ATZ after NO DATA: CR is unknown" (bytesSay 64 (afterAnswers (afterNoData freshSession "010D") ("ATZ" ∷ [])) (13 ∷ []) .text) (withPrompt "\r?") ∷
+    example "other AT commands leave the last command"
+    (map (λ (t : String). byCR (afterAnswers (afterNoData freshSession "010D") (t ∷ []))) ("ATE0" ∷ "ATH1" ∷ "ATI" ∷ "AT" ∷ []))
+    (ascii "010D" ∷ ascii "010D" ∷ ascii "010D" ∷ ascii "010D" ∷ []) ∷
+    example "5 and 6 leave it, NO DATA with linefeeds in 11 bytes too"
+    (replyLeaves 64 (afterLine afterReply "010C") (0 ∷ []) ∷ replyLeaves 12 (afterLine afterReply "010C") speedLine ∷ replyLeaves 11 (afterLine afterReply "010C") [] ∷ [])
+    ((refused 5, ascii "010D") ∷ (refused 6, ascii "010D") ∷ (refused 6, ascii "010D") ∷ []) ∷
+    example "in 12 bytes it is written, and without linefeeds in 10"
+    (replyLeaves 12 (afterLine afterReply "010C") [] ∷ replyLeaves 9 (afterLine (afterAnswers afterReply quiet) "010C") [] ∷
+    replyLeaves 10 (afterLine (afterAnswers afterReply quiet) "010C") [] ∷ [])
+    ((result Reading, ascii "010C") ∷ (refused 6, ascii "010D") ∷ (result Reading, ascii "010C") ∷ []) ∷
     []

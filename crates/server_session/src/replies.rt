@@ -159,8 +159,8 @@ fn replied(state: ClientState, line: &[u8], len: usize) -> ClientState
     requires { ⌜ length (now line) ≡ 128 ⌝ }
     ensures { λ r. ⌜ settings r ≡ withLast (settings state) (take len (now (line .entry))) ⌝ }
 {
-    let size = wire::at_most(len, 128);
-    state.with_last(&line[..size])
+    let end = wire::at_most(len, 128);
+    state.with_last(&line[..end])
 }
 
 impl ServerSession {
