@@ -123,19 +123,6 @@ reach-whole room (q ∷ qs) (vs ∷ vss) l a =
     (λ f. let b = rw (e, f) at a in from-no cc)
     (λ f. let b = rw (e, f) at a in rw (e, f) (ap suc (reach-whole (room - length (partFormat .write vs)) qs vss (omega arith) b))))
 
-length-givens : (qs : List Query) → length (givens qs) ≡ length qs
-length-givens [] = refl
-length-givens (q ∷ qs) = ap suc (length-givens qs)
-
--- where every query fits, it goes through all of them
-module _ (d : Drive) where
-  fits-by : (a : Answer (List Query)) → script (d .scriptBytes) ≡ a → EveryFits d → reaches d .fit ≡ length (queries d)
-  fits-by (refused n) e f = let g = rw e at f in from-no cc
-  fits-by (result qs) e f = rw e (reach-whole (length (d .lentBuffer)) qs (givens qs) (length-givens qs) (rw e at f))
-
-  fits-whole : EveryFits d → reaches d .fit ≡ length (queries d)
-  fits-whole f = fits-by (script (d .scriptBytes)) refl f
-
 -- the values of a run's parts are what was given, in the order of an answer
 ordered-givens : (qs : List Query) → ordered qs ≡ map answerOrder (givens qs)
 ordered-givens [] = refl
@@ -153,6 +140,7 @@ record Stands (d : Drive) : Type 0 where
   few : count ≤ length values
   parts : comesTo d .parts ≡ map (partFormat .write) (take count values)
   inside : length (joined (map (partFormat .write) (take count values))) ≤ length (d .lentBuffer)
+  whole : comesTo d .answer ≡ result tt → count ≡ length (queries d)
   handed : comesTo d .handed ≡ take (suc count) (commands (queries d))
   first : (n : ℕ) → GoodFirst n d → take n values ≡ take n (ordered (queries d))
   reached : (n : ℕ) → GoodFirst n d → count < n → record { fit = count; answer = comesTo d .answer } ≡ reaches d
@@ -175,6 +163,7 @@ module _ (d : Drive) (r : Ran d) where
         few = omega arith;
         parts = ap (λ (r : Run). r .parts) run;
         inside = omega arith;
+        whole = λ a. from-no (cc (ap (λ (r : Run). r .answer) run));
         handed = ap (λ (r : Run). r .handed) run ∙ rw e refl;
         first = λ n g. rw e refl;
         reached = λ n g h. (λ i. record { fit = 0; answer = run i .answer }) ∙ rw e refl;
@@ -191,6 +180,7 @@ module _ (d : Drive) (r : Ran d) where
         few = reach-few room qs vss;
         parts = k .limited .parts room;
         inside = reach-inside room qs vss;
+        whole = λ a. rw e (reach-whole room qs vss (k .limited .each) (sym (k .limited .answer room) ∙ a));
         handed = rw e (k .handed room);
         first = λ n g. rw e (first n g);
         reached = λ n g h.
@@ -230,6 +220,7 @@ module _ (d : Drive) (r : Ran d) where
         all =
             ap (λ n. firstParts n (hireRecord d)) stand-is ∙ ap (firstParts n) record-is ∙ first-parts n standing standing-fits
             ∙ ap (writeRow partFormat) (take-take n n (t .values) (omega arith)) ∙ sym record-is;
+        whole = λ a. stand-is ∙ t .whole (sym (ap (λ (x : Recorded). x .answer) (r .ran)) ∙ a);
         handed = t .handed ∙ ap (λ n. take (suc n) (commands (queries d))) (sym stand-is);
       }
 
@@ -244,7 +235,7 @@ module _ (d : Drive) (r : Ran d) where
       let n = length (queries d) in
       let whole : t .count ≡ n =
       by-test (ltb (t .count) n)
-      (λ e. ap (λ (r : Reach). r .fit) (t .reached n g (ltb-true (t .count) n e)) ∙ fits-whole d f)
+      (λ e. t .whole (ap (λ (r : Reach). r .answer) (t .reached n g (ltb-true (t .count) n e)) ∙ f))
       (λ e. omega (arith, ltb-false (t .count) n e, t .few, t .each)) in
       ap (λ k. take k (t .values)) whole ∙ t .first n g ∙ ap (λ k. take k (ordered (queries d))) (sym (length-ordered (queries d))) ∙ take-whole (ordered (queries d))
 
@@ -254,11 +245,9 @@ module _ (d : Drive) (r : Ran d) where
       let n = suc (partsStanding d) in
       let s = stand-is in
       let reached = t .reached n g (omega (arith, s)) in
-      let fit : t .count ≡ reaches d .fit = ap (λ (r : Reach). r .fit) reached in
       record {
-        stand = s ∙ fit;
+        stand = s ∙ ap (λ (r : Reach). r .fit) reached;
         answer = ap (λ (x : Recorded). x .answer) (r .ran) ∙ ap (λ (r : Reach). r .answer) reached;
-        whole = λ f. s ∙ fit ∙ fits-whole d f;
         values =
             ap (λ s. listOf (readRecord s)) record-is ∙ ap listOf (record-back standing standing-fits)
             ∙ sym (take-take (t .count) n (t .values) (omega arith)) ∙ ap (take (t .count)) (t .first n g) ∙ take-take (t .count) n (ordered (queries d)) (omega arith)

@@ -104,8 +104,11 @@ pub record AnyRun (d : Drive) : Type 0 where
   -- all parts that it wrote are read, and they are the whole record
   pub each : partsStanding d ≡ length (comesTo d .parts)
   pub all : firstParts (partsStanding d) (hireRecord d) ≡ hireRecord d
+  -- where no number ended it, each query has its part
+  pub whole : runAnswer (d .run .answer) ≡ result tt → partsStanding d ≡ length (queries d)
   -- "the OBD commands handed to the vehicle are exactly the queries' own texts less spaces, one for each query in the list's order, repeats included", with lines or
-  -- without: "each is still handed out under its own text" (document 02 §13). Where 8 or 6 ends the run, up to the query that ended it
+  -- without: "each is still handed out under its own text" (document 02 §13). Where 8 or 6 ends the run, up to the query that ended it. They are told by the
+  -- definition of the run: a call returns none
   pub handed : comesTo d .handed ≡ take (suc (partsStanding d)) (commands (queries d))
 
 -- What holds of a run whose queries, as far as they ran, are the demand's.
@@ -113,8 +116,6 @@ pub record Holds (d : Drive) : Type 0 where
   -- the parts stand of just those queries, from the first on, that fit the limits; and what ended the run, or that nothing did
   pub stand : partsStanding d ≡ reaches d .fit
   pub answer : runAnswer (d .run .answer) ≡ reaches d .answer
-  -- and where every query fits, each has its part
-  pub whole : EveryFits d → partsStanding d ≡ length (queries d)
   -- a part's values are those that the vehicle gave, "by rising PID, and within a PID in reply order" (document 02 §1)
   pub values : listOf (readRecord (hireRecord d)) ≡ take (partsStanding d) (map answerOrder (givens (queries d)))
 
@@ -134,5 +135,6 @@ pub record Agreement (d e : Drive) : Type 0 where
   pub one : GoodRan d → Holds d
   pub two : GoodRan e → Holds e
   pub equal : GoodAll d → GoodAll e → EveryFits d → EveryFits e → Equal d e
-  -- "Where 8 or 6 ends a run, the claim holds, in both runs, of the queries before that point, whose parts stand" (document 01)
+  -- "Where 8 or 6 ends a run, the claim holds, in both runs, of the queries before that point, whose parts stand" (document 01); of the commands handed out `anyOne` and
+  -- `anyTwo` have it
   pub before : (n : ℕ) → n ≤ partsStanding d → n ≤ partsStanding e → GoodFirst n d → GoodFirst n e → EqualFirst n d e

@@ -60,11 +60,14 @@ examples :
       parts = workedPart ∷ (0x00 ∷ []) ∷ (0x00 ∷ []) ∷ spokenPart ∷ [];
       handed = ascii "010C1" ∷ ascii "010D" ∷ ascii "010D" ∷ ascii "010D" ∷ [];
     }) ×
+    (runSays false [] 2 (silent ++ silent) ≡ record { answer = result tt; parts = (0x00 ∷ []) ∷ (0x00 ∷ []) ∷ []; handed = ascii "010D" ∷ ascii "010D" ∷ [] }) ×
+    (runSays true [] 1 (silent ++ silent) ≡ record { answer = refused 6; parts = (0x00 ∷ []) ∷ []; handed = ascii "010D" ∷ ascii "010D" ∷ [] }) ×
+    (runSays true [] 0 silent ≡ record { answer = refused 6; parts = []; handed = ascii "010D" ∷ [] }) ×
     (runSays true [] 9 (0x00 ∷ worked) ≡ record { answer = refused 5; parts = []; handed = [] })
 unfolding has high isSpace raised hexDigit digit j1979 mode01Lengths groupBytes lineList valueFormat atKind lineText replyText canonical
     unless byteTaken byteSays bytesSay answerSays replySays queryText textLines textLine replyLines walked answerOrder learnLength initSays querySays
     replyTakes pieceSays finishSays script queryFormat exchanged pieces initialised part runSays
-examples = (refl, refl, refl, refl, refl)
+examples = (refl, refl, refl, refl, refl, refl, refl, refl)
 
 -- the client's repeat support after some queries of vehicle speed with no line: the second of them goes out as a bare CR, which meets no `?`
 abbrev repeatAfter : Bench → List Query → FeatureSupport

@@ -21,8 +21,10 @@ unfolding high isSpace raised hexDigit lineList atKind lineText replyText putWho
 server-holds =
     refl & refl & refl & refl & refl & refl & refl & refl & refl & refl &
     refl & refl & refl & refl & refl & refl & refl & refl & refl & refl &
-    refl & refl & refl & refl & refl & refl & refl & refl & refl & tt
+    refl & refl & refl & refl & refl & refl & refl & refl & tt
 
 pub repeats-hold : AsExpected repeats
-unfolding high isSpace raised hexDigit lineList atKind lineText replyText canonical unless byteTaken byteSays bytesSay answerSays replySays rejectSays
-repeats-hold = refl & refl & refl & refl & refl & refl & refl & refl & refl & refl & refl & tt
+unfolding high isSpace raised hexDigit lineList atKind lineText replyText canonical unless byteTaken byteSays bytesSay answerSays replySays rejectSays exchanged
+repeats-hold =
+    refl & refl & refl & refl & refl & refl & refl & refl & refl & refl &
+    refl & refl & refl & refl & refl & tt

@@ -15,7 +15,7 @@ use Rattle.reply.specs.Answers.{replied}
 use Rattle.reply.specs.Steps.{replySize}
 use Rattle.server_session.specs.Session.{Session, freshSession}
 use Rattle.server_session.specs.declared.Phase.{Phase}
-use Rattle.server_session.specs.declared.Phase.the-variants.{Reading, ObdCommand}
+use Rattle.server_session.specs.declared.Phase.the-variants.{Reading, AtCommand, ObdCommand}
 use Rattle.server_session.specs.declared.ServerAnswer.the-variants as answer
 use Rattle.server_session.specs.declared.ServerSession.{ServerSession}
 use Rattle.server_session.specs.Call.{serverLent, serverStep}
@@ -82,8 +82,8 @@ serverExamples =
     example "its 13 bytes in room for 12" (replySays 12 (afterLine freshSession "010D") speedLine .answer) (refused 6) ∷
     example "then CR hands it out again" (afterLine afterReply "" .phase ∷ []) (ObdCommand ∷ []) ∷
     example "as it was" (afterLine afterReply "" .line) (ascii "010D") ∷
-    example "no lines" (replySays 64 (afterLine afterReply "010C") [] .text) (withPrompt "NO DATA") ∷
-    example "its command becomes the last one too" (replySays 64 (afterLine afterReply "010C") [] .next .state .last) (ascii "010C") ∷
+    example "a reply without lines, which becomes the last command too" (serverLent (replySays 12 (afterLine afterReply "010C") []) (replicate 13 9))
+    (serverStep (record { answer = answer.Reading; taken = 0; written = 12; session = serverHolding "010C" "" Reading }) (withPrompt "NO DATA" ++ (9 ∷ []))) ∷
     example "a rejection" (rejectSays 64 (afterLine afterReply "010C") (ascii "UNABLE TO CONNECT") .text) (withPrompt "UNABLE TO CONNECT") ∷
     example "it leaves the last command" (rejectSays 64 (afterLine afterReply "010C") (ascii "?") .next .state .last) (ascii "010D") ∷
     example "rejections out of turn, too long, not ASCII, and with little room"
@@ -117,42 +117,60 @@ serverExamples =
     example "and hands out" (exchanged 60 freshSession (ascii "010D\r") speedLine .handed) (ascii "010D" ∷ []) ∷
     []
 
--- ---- document 02 §13: "a query answered NO DATA now becomes the server's last command too; a rejected one still doesn't"
+-- ---- document 02 §13: "a query answered NO DATA now becomes the server's last command too; a rejected one still doesn't", and of document 01 the wrong turn "remembering a
+-- query answered NO DATA at the server" "falls"
 
--- the session after a command line and NO DATA
+-- the session after a command line and its reply, of one line or of none; and after its rejection
+abbrev afterLines : Session → String → Session
+afterLines s t = replySays 64 (afterLine s t) speedLine .next
+
 abbrev afterNoData : Session → String → Session
 afterNoData s t = replySays 64 (afterLine s t) [] .next
 
--- the command that a bare CR hands out; none where `?` is written
-abbrev byCR : Session → List ℕ
-byCR s = afterLine s "" .line
+abbrev afterReject : Session → String → String → Session
+afterReject s t text = rejectSays 64 (afterLine s t) (ascii text) .next
 
--- the answer of a reply with some room, and the last command then
-abbrev replyLeaves : ℕ → Session → List ℕ → Answer Phase × List ℕ
-replyLeaves room s list = let d = replySays room s list in (d .answer, d .next .state .last)
+-- what a bare CR sends, and the phase and the line then: a command is handed out, or `?` is written
+abbrev byCR : Session → List ℕ × Phase × List ℕ
+byCR s = let d = bytesSay 64 s (13 ∷ []) in (d .text, d .next .phase, d .next .line)
+
+abbrev handsOut : String → List ℕ × Phase × List ℕ
+handsOut t = (ascii "\r", ObdCommand, ascii t)
+
+abbrev isUnknown : List ℕ × Phase × List ℕ
+isUnknown = (withPrompt "\r?", Reading, [])
+
+-- the answer of a reply with some room, and the last command, the phase and the line then
+abbrev replyLeaves : ℕ → Session → List ℕ → Answer Phase × List ℕ × Phase × List ℕ
+replyLeaves room s list = let d = replySays room s list in (d .answer, d .next .state .last, d .next .phase, d .next .line)
 
 abbrev pub repeats : List Example
 repeats =
-    example "0D answered, 0C not: CR hands out 0C" (byCR (afterNoData afterReply "010C")) (ascii "010C") ∷
-    example "a first query without an answer is handed out again" (byCR (afterNoData freshSession "010D")) (ascii "010D") ∷
-    example "as its command, without spaces and in capitals" (byCR (afterNoData freshSession " 01 0d")) (ascii "010D") ∷
-    example "one of 128 bytes whole" (byCR (replySays 64 (bytesSay 200 freshSession (replicate 128 50 ++ (13 ∷ [])) .next) [] .next)) (replicate 128 50) ∷
-    example "and once more, when that is answered NO DATA or with a line"
-    (byCR (afterNoData (afterNoData freshSession "010D") "") ∷ byCR (replySays 64 (afterLine (afterNoData freshSession "010D") "") speedLine .next) ∷ [])
-    (ascii "010D" ∷ ascii "010D" ∷ []) ∷
-    example "0C rejected, also with the text NO DATA: CR hands out 0D"
-    (map (λ (t : List ℕ). byCR (rejectSays 64 (afterLine afterReply "010C") t .next)) (ascii "NO DATA" ∷ ascii "?" ∷ [] ∷ [])) (ascii "010D" ∷ ascii "010D" ∷ ascii "010D" ∷ []) ∷
-    example "a first query rejected with NO DATA: CR is unknown"
-    (bytesSay 64 (rejectSays 64 (afterLine freshSession "010D") (ascii "NO DATA") .next) (13 ∷ []) .text) (withPrompt "\r?") ∷
-    example "ATZ after NO DATA: CR is unknown" (bytesSay 64 (afterAnswers (afterNoData freshSession "010D") ("ATZ" ∷ [])) (13 ∷ []) .text) (withPrompt "\r?") ∷
-    example "other AT commands leave the last command"
-    (map (λ (t : String). byCR (afterAnswers (afterNoData freshSession "010D") (t ∷ []))) ("ATE0" ∷ "ATH1" ∷ "ATI" ∷ "AT" ∷ []))
-    (ascii "010D" ∷ ascii "010D" ∷ ascii "010D" ∷ ascii "010D" ∷ []) ∷
-    example "5 and 6 leave it, NO DATA with linefeeds in 11 bytes too"
-    (replyLeaves 64 (afterLine afterReply "010C") (0 ∷ []) ∷ replyLeaves 12 (afterLine afterReply "010C") speedLine ∷ replyLeaves 11 (afterLine afterReply "010C") [] ∷ [])
-    ((refused 5, ascii "010D") ∷ (refused 6, ascii "010D") ∷ (refused 6, ascii "010D") ∷ []) ∷
-    example "in 12 bytes it is written, and without linefeeds in 10"
-    (replyLeaves 12 (afterLine afterReply "010C") [] ∷ replyLeaves 9 (afterLine (afterAnswers afterReply quiet) "010C") [] ∷
-    replyLeaves 10 (afterLine (afterAnswers afterReply quiet) "010C") [] ∷ [])
-    ((result Reading, ascii "010C") ∷ (refused 6, ascii "010D") ∷ (result Reading, ascii "010C") ∷ []) ∷
+    example "0C with a line, then 0D with NO DATA: CR hands out 0D" (byCR (afterNoData (afterLines freshSession "010C") "010D")) (handsOut "010D") ∷
+    example "0D with NO DATA, first of all" (byCR (afterNoData freshSession "010D")) (handsOut "010D") ∷
+    example "as its command, without spaces and in capitals" (byCR (afterNoData freshSession " 01 0d")) (handsOut "010D") ∷
+    example "one of 128 bytes whole" (byCR (replySays 64 (bytesSay 200 freshSession (replicate 128 50 ++ (13 ∷ [])) .next) [] .next)) (ascii "\r", ObdCommand, replicate 128 50) ∷
+    example "and once more, when CR gets NO DATA, a line or a rejection"
+    (byCR (afterNoData (afterNoData freshSession "010D") "") ∷ byCR (afterLines (afterNoData freshSession "010D") "") ∷
+    byCR (afterReject (afterNoData freshSession "010D") "" "?") ∷ []) (handsOut "010D" ∷ handsOut "010D" ∷ handsOut "010D" ∷ []) ∷
+    example "the next with a line, or with NO DATA, takes its place"
+    (byCR (afterLines (afterNoData freshSession "010D") "010C") ∷ byCR (afterNoData (afterNoData freshSession "010D") "010C") ∷ []) (handsOut "010C" ∷ handsOut "010C" ∷ []) ∷
+    example "0C with a line, then 0D rejected, also with the text NO DATA: CR hands out 0C"
+    (map (λ (t : String). byCR (afterReject (afterLines freshSession "010C") "010D" t)) ("NO DATA" ∷ "?" ∷ "" ∷ [])) (handsOut "010C" ∷ handsOut "010C" ∷ handsOut "010C" ∷ []) ∷
+    example "0D with NO DATA, then 0C rejected: CR hands out 0D" (byCR (afterReject (afterNoData freshSession "010D") "010C" "NO DATA")) (handsOut "010D") ∷
+    example "0D rejected with NO DATA, first of all: CR gets `?`" (byCR (afterReject freshSession "010D" "NO DATA")) isUnknown ∷
+    example "ATZ after NO DATA: CR gets `?`" (byCR (afterAnswers (afterNoData freshSession "010D") ("ATZ" ∷ []))) isUnknown ∷
+    example "other AT commands leave the last one"
+    (map (λ (t : String). byCR (afterAnswers (afterNoData freshSession "010D") (t ∷ []))) ("ATH1" ∷ "ATI" ∷ "AT" ∷ [])) (handsOut "010D" ∷ handsOut "010D" ∷ handsOut "010D" ∷ []) ∷
+    example "1, 5 and 6 leave it, and the command handed out; NO DATA with linefeeds takes 12 bytes"
+    (replyLeaves 64 afterReply [] ∷ replyLeaves 64 (afterLine afterReply "ATI") [] ∷ replyLeaves 64 (afterLine afterReply "010C") (0 ∷ []) ∷
+    replyLeaves 12 (afterLine afterReply "010C") speedLine ∷ replyLeaves 11 (afterLine afterReply "010C") [] ∷ [])
+    ((refused 1, ascii "010D", Reading, []) ∷ (refused 1, ascii "010D", AtCommand, ascii "ATI") ∷ (refused 5, ascii "010D", ObdCommand, ascii "010C") ∷
+    (refused 6, ascii "010D", ObdCommand, ascii "010C") ∷ (refused 6, ascii "010D", ObdCommand, ascii "010C") ∷ []) ∷
+    example "and without linefeeds 10"
+    (replyLeaves 9 (afterLine (afterAnswers afterReply quiet) "010C") [] ∷ replyLeaves 10 (afterLine (afterAnswers afterReply quiet) "010C") [] ∷ [])
+    ((refused 6, ascii "010D", ObdCommand, ascii "010C") ∷ (result Reading, ascii "010C", Reading, []) ∷ []) ∷
+    example "an exchange with no lines" (exchanged 60 freshSession (ascii "010D\r") []) (record { next = afterNoData freshSession "010D"; text = withPrompt "010D\rNO DATA"; handed = ascii "010D" ∷ [] }) ∷
+    example "and of CR after it" (exchanged 60 (afterNoData freshSession "010D") (ascii "\r") [])
+    (record { next = afterNoData freshSession "010D"; text = withPrompt "\rNO DATA"; handed = ascii "010D" ∷ [] }) ∷
     []

@@ -50,7 +50,7 @@ answerSays room s ati device =
     (ltb room 48, 6) ∷ [])
     (serverRefusing s) (atAnswered s ati device)
 
--- a reply: no OBD command is handed out; not a line list; a text longer than the room. With lines or without, the command becomes the last one
+-- a reply: no OBD command is handed out; not a line list; a text longer than the room. Where it gets no number the command becomes the last one, with lines or without
 unfoldable pub replySays : ℕ → Session → List ℕ → ServerSaid
 replySays room s list =
     let ls = listOf (lineList list) in
@@ -61,7 +61,7 @@ replySays room s list =
     (ltb room (length (d .text)), 6) ∷ [])
     (serverRefusing s) d
 
--- a rejection: no OBD command is handed out; over 64 bytes; a byte of 80 or more; a text longer than the room. The last command remains, whatever the text
+-- a rejection: no OBD command is handed out; over 64 bytes; a byte of 80 or more; a text longer than the room. The last command remains, whatever the text is
 unfoldable pub rejectSays : ℕ → Session → List ℕ → ServerSaid
 rejectSays room s text =
     let d = lineAwaited (s .state) (chipReply (s .state .linefeeds) (text ∷ [])) in

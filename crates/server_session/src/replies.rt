@@ -154,8 +154,8 @@ fn put_answer<'a>(handled: AtHandled, ati: &'a [u8], device: &'a [u8], out: &mut
     put_at_answer(out, kind, ati, device, handled.state.linefeeds_enabled)
 }
 
-// The settings after a reply to the command that the first len bytes of a line are: it is the last command.
-fn replied(state: ClientState, line: &[u8], len: usize) -> ClientState
+// The settings after a reply to the command that the first len bytes of a line are, which is then the last one.
+fn remembered(state: ClientState, line: &[u8], len: usize) -> ClientState
     requires { ⌜ length (now line) ≡ 128 ⌝ }
     ensures { λ r. ⌜ settings r ≡ withLast (settings state) (take len (now (line .entry))) ⌝ }
 {
@@ -214,7 +214,8 @@ impl ServerSession {
         self.answered(handled.state, written)
     }
 
-    // Replies to the OBD command that is handed out with a line list, in the reader's settings; with no lines that is NO DATA. It becomes the last command.
+    // Replies to the OBD command that is handed out with a line list, in the reader's settings, or with NO DATA where there are no lines. Either way the command
+    // becomes the last one.
     pub fn reply(self, list: &[u8], out: &mut [u8]) -> ServerStep
         ensures { λ r. ⌜ serverStep r (now (out .exit)) ≡ serverLent (replySays (length (now (out .entry))) (session self) (now (list .entry))) (now (out .entry)) ⌝ }
         ensures { λ r. ⌜ ((q : Refusal) → r .answer ≡ ServerAnswer.Refused q → r .session ≡ self) ⌝ }
@@ -234,7 +235,7 @@ impl ServerSession {
         match answer {
             Count::Refused(refusal) => self.refused(refusal),
             Count::Is(size) => {
-                let state = replied(self.state, &self.line, self.turn.len);
+                let state = remembered(self.state, &self.line, self.turn.len);
                 self.answered(state, size)
             }
         }

@@ -1,12 +1,12 @@
--- `server_session::replies::replied` meets its contract.
+-- `server_session::replies::remembered` meets its contract.
 use mathlib.Core.Path.{ap, _∙_}
 use native.Mathlib.Omega.{arith}
 use lib.ListN.{take, length-take}
 use borrow.Author.Needs.{needs}
 use Rattle.client_state.specs.Settings.{settings, withLast}
 use Rattle.server_session.proofs.StepLaws.{line-cut}
-use Rattle.server_session.proofs.replies.replied.Statement.{statement}
-use Rattle.server_session.proofs.replies.replied.Tie as tie
+use Rattle.server_session.proofs.replies.remembered.Statement.{statement}
+use Rattle.server_session.proofs.replies.remembered.Tie as tie
 
 at-most-requires : tie.Need-at-most-requires
 at-most-requires c κs = search needs
@@ -23,6 +23,6 @@ returns c =
     let cut = ap (λ n. take n (s .args .line .now)) (c .before .before .at-most .ensures) ∙ line-cut (s .args .len) (s .args .line .now) (s .pre) in
     c .with-last .ensures ∙ ap (withLast (settings (s .args .state))) cut
 
-pub replied-spec : {M : Type 1} → statement M
-replied-spec =
+pub remembered-spec : {M : Type 1} → statement M
+remembered-spec =
     tie.close (tie.spec at-most-requires slice-aggregate-with-last with-last-requires returns)
