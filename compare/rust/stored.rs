@@ -350,7 +350,7 @@ fn last_commands(to: &mut Store) {
     let rejected = || Answer::Text("NO DATA".to_string());
     to.server(reader(vec![b"010C\r010D\r\r010C\r\r".to_vec()], vec![line(), none(), none(), line(), line()]));
     to.server(reader(vec![b"010D\r \n".to_vec(), b"\t".to_vec(), b"\r\r\r".to_vec()], vec![none(), rejected(), line(), none()]));
-    to.server(reader(vec![b"ATE0\r010d\r \r\r".to_vec()], vec![none(), none(), rejected()]));
+    to.server(reader(vec![b"ATE0\r010d\r010C\r \r\r".to_vec()], vec![none(), rejected(), none(), line()]));
     to.server(reader(vec![b"010D\r\rATZ\r\r".to_vec()], vec![none()]));
     to.server(reader(b"0 1\0c\r\r".iter().map(|byte| vec![*byte]).collect(), vec![none(), line()]));
     to.server(reader(vec![[&[b'2'; 127], &b"3\r\r"[..]].concat()], vec![none(), line()]));
