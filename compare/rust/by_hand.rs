@@ -1,5 +1,5 @@
 //! Cases whose logs are written by hand: document 01's numbers, at their limits from both sides, with what each leaves in the session, and document 02's order of
-//! PIDs, its 00 bytes and its pluses. No log here is taken from the Rust's answers or from this library's. The state is shown before the first call and after each.
+//! PIDs, its 00 bytes, its pluses and its last command after NO DATA. No log here is taken from the Rust's answers or from this library's. The state is shown before the first call and after each.
 use crate::driver::{client, server, Script};
 use crate::every::WORKED;
 use crate::plan::{put_call, put_number, put_text};
@@ -321,19 +321,33 @@ fn chip(text: &[u8]) -> Vec<u8> {
 }
 
 impl Session<Server> {
-    /// A command and its CR, with echo.
-    fn line(self, command: &[u8], phase: u8) -> Self {
-        let line = [command, b"\r"].concat();
-        let said = (64 + phase, line.len(), line.clone());
-        self.call(server::BYTES, &line, said, |s| (s.phase, s.line) = (phase, command.to_vec()))
+    /// A line with its CR, sent back if echo is on, that hands out a command.
+    fn line(self, line: &[u8], command: &[u8], phase: u8) -> Self {
+        let said = (64 + phase, line.len(), if self.now.echo { line.to_vec() } else { Vec::new() });
+        self.call(server::BYTES, line, said, |s| (s.phase, s.line) = (phase, command.to_vec()))
     }
 
     fn at(self, command: &[u8]) -> Self {
-        self.line(command, AT)
+        self.line(&[command, b"\r"].concat(), command, AT)
     }
 
     fn obd(self, command: &[u8]) -> Self {
-        self.line(command, OBD)
+        self.line(&[command, b"\r"].concat(), command, OBD)
+    }
+
+    /// A bare CR hands out this command, the last one.
+    fn again(self, command: &[u8]) -> Self {
+        self.line(b"\r", command, OBD)
+    }
+
+    /// A bare CR without a last command, under fresh settings.
+    fn nothing_again(self) -> Self {
+        self.call(server::BYTES, b"\r", (64, 1, chip(b"\r?")), |_| {})
+    }
+
+    /// A setting is changed.
+    fn set(self, command: &[u8], text: &[u8], change: impl Fn(&mut Server)) -> Self {
+        self.at(command).answer(server::ANSWER_DEVICE, b"ELM327", text, change)
     }
 
     /// So many bytes of a line, each taken and sent back.
@@ -363,6 +377,16 @@ impl Session<Server> {
     /// A reply makes its command the last one.
     fn reply(self, list: &[u8], text: &[u8]) -> Self {
         self.call(server::REPLY, list, sent(text), |s| (s.phase, s.last) = (READING, std::mem::take(&mut s.line)))
+    }
+
+    /// So does one without lines.
+    fn no_data(self) -> Self {
+        self.reply(&[], &chip(b"NO DATA"))
+    }
+
+    /// A rejection leaves the last command, with this text too.
+    fn rejected(self) -> Self {
+        self.answer(server::REJECT, b"NO DATA", &chip(b"NO DATA"), |_| {})
     }
 
     fn malformed(self, list: &[u8]) -> Self {
@@ -960,6 +984,73 @@ fn pluses() -> Vec<Written> {
     ]
 }
 
+/// Document 02 §13: "The datasheet repeats the last command, so a query answered NO DATA now becomes the server's last command too; a rejected one still doesn't."
+fn no_data() -> Vec<Written> {
+    let speed = || reading().obd(b"010C").reply(LINES, LINES_SENT);
+    let none = || reading().obd(b"010D").no_data();
+    let after = speed().obd(b"010D").no_data().again(b"010D").reply(LINES, LINES_SENT).again(b"010D");
+    // Document 01: `?`. A bare CR that is answered NO DATA leaves the same command.
+    let first = none().again(b"010D").no_data().line(b" \t\n\x0B\x0C\r", b"010D", OBD).no_data().again(b"010D");
+    let both = none().obd(b"010C").no_data().again(b"010C").rejected().again(b"010C");
+    let rejected = speed().obd(b"010D").rejected().again(b"010C").rejected().again(b"010C");
+    let rejected_first = reading().obd(b"010D").rejected().nothing_again();
+    let rejected_after = none().obd(b"010C").rejected().again(b"010D");
+    let reset = none().set(b"ATZ", b"\r\n\r\nELM327 v1.5\r\n\r\n>", |s| s.last.clear()).nothing_again();
+    let silent = none().set(b"ATE0", &chip(b"OK"), |s| s.echo = false).again(b"010D").no_data().again(b"010D");
+    // Without linefeeds, and with headers, which NO DATA does not have.
+    let settings = none()
+        .set(b"ATH1", &chip(b"OK"), |s| s.headers = true)
+        .again(b"010D")
+        .no_data()
+        .set(b"ATL0", b"OK\r\r>", |s| s.linefeeds = false)
+        .again(b"010D")
+        .reply(&[], b"NO DATA\r\r>")
+        .again(b"010D")
+        .reply(LINES, b"7E8 03 41 0D 20\r\r>");
+    let malformed = speed().obd(b"010D").malformed(&[0x00]).malformed(&[0x80, 0x00, 0x00]).no_data().again(b"010D");
+    let long: Vec<u8> = (0..128).map(|n| b'0' + n % 10).collect();
+    let whole = reading().obd(&long).no_data().again(&long);
+    // "The command is the line without 09 to 0D and 20, letters a to z raised": 00 stays.
+    let canonical = reading().line(b" 01\0 0d\t7f\x0C\r", b"01\x000D7F", OBD).no_data().again(b"01\x000D7F");
+    vec![
+        after.case("010C with a line, then 010D"),
+        first.case("010D on a fresh server, and bare CRs"),
+        both.case("010D, then 010C"),
+        rejected.case("010C with a line, then 010D rejected"),
+        rejected_first.case("010D rejected on a fresh server"),
+        rejected_after.case("010D, then 010C rejected"),
+        reset.case("010D, then ATZ"),
+        silent.case("010D, then ATE0"),
+        settings.case("ATH1 and ATL0"),
+        malformed.case("5, then no lines"),
+        whole.case("128 bytes"),
+        canonical.case("spaces, small letters and 00"),
+    ]
+}
+
+/// Document 02 §13: "Hire records may now include queries without any line". The part of one is its number of values, 00, and 6 where not one byte is left for it.
+fn without_lines() -> Vec<Written> {
+    let speed = [0x01, 0x0C, 0xE9, 0x0F, 0x04, 0x41, 0x0C, 0x1A, 0xF8];
+    let kmh = [0x01, 0x0D, 0xE9, 0x0F, 0x03, 0x41, 0x0D, 0x20];
+    let none: &[u8] = &[0x01, 0x0D, 0x00, 0x00];
+    let one: &[u8] = &[0x01, 0x0D, 0x00, 0x01, 0x00, 0x03, 0x41, 0x0D, 0x20];
+    let first: &[u8] = &[0x01, 0x0C, 0x00, 0x01, 0x00, 0x04, 0x41, 0x0C, 0x1A, 0xF8];
+    let run = |name, repeat, room, queries: &[&[u8]], code, parts: &[&[u8]]| {
+        let mut log = Vec::new();
+        put_call(&mut log, code, 0, &parts.concat());
+        Written { name, kind: RUN + u8::from(repeat), room, script: Script { bytes: queries.concat(), calls: 0 }, log }
+    };
+    vec![
+        run("in between and repeated", true, 100, &[first, none, none, one], 64, &[&speed, &[0], &[0], &kmh]),
+        run("in between, repeat off", false, 100, &[first, none, none, one], 64, &[&speed, &[0], &[0], &kmh]),
+        run("first", true, 100, &[none, one], 64, &[&[0], &kmh]),
+        run("last, in the last byte", true, 10, &[first, none], 64, &[&speed, &[0]]),
+        run("last, without a byte for it", true, 9, &[first, none], 6, &[&speed]),
+        run("repeated, in one byte", true, 1, &[none, none], 6, &[&[0]]),
+        run("first, without a byte for it", true, 0, &[none, one], 6, &[]),
+    ]
+}
+
 /// The cases, under their headings.
 pub fn by_hand() -> Vec<(&'static str, Vec<Written>)> {
     vec![
@@ -979,5 +1070,7 @@ pub fn by_hand() -> Vec<(&'static str, Vec<Written>)> {
         ("by hand, PIDs in rising order", rising()),
         ("by hand, 00 bytes", nulls()),
         ("by hand, pluses", pluses()),
+        ("by hand, the last command after NO DATA", no_data()),
+        ("by hand, bench queries without lines", without_lines()),
     ]
 }

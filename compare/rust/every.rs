@@ -17,6 +17,13 @@ pub trait Take {
     }
 
     fn server(&mut self, case: ServerCase);
+
+    /// A server session of which a document says what OBD commands it hands out, whatever the Rust does.
+    fn server_hands(&mut self, case: ServerCase, commands: &[Vec<u8>]) {
+        assert_eq!(case.handed(), commands, "other commands than the document's are compared:\n{}", case.show());
+        self.server(case);
+    }
+
     fn run(&mut self, case: RunCase);
 }
 
@@ -398,6 +405,49 @@ pub fn commands(to: &mut impl Take) {
     }
 }
 
+/// Document 02 §13: "a query answered NO DATA now becomes the server's last command too; a rejected one still doesn't." Every session of up to four steps, so that the
+/// Rust's last command is another than the due one and the same again in every way, whole, byte by byte, and in pieces of one byte.
+pub fn last_commands(to: &mut impl Take) {
+    let line = || Some(Answer::Lines(vec![(None, vec![0x41, 0x0C, 0x1A, 0xF8])]));
+    let none = || Some(Answer::Lines(Vec::new()));
+    let steps: [(&[u8], Option<Answer>); 9] = [
+        (b"010C\r", line()),
+        (b"010D\r", line()),
+        (b"010C\r", none()),
+        (b"01 0d\r", none()),
+        (b"0105\r", Some(Answer::Text("NO DATA".to_string()))),
+        (b"\r", line()),
+        (b" \n\t\r", none()),
+        (b"ATZ\r", None),
+        (b"ATE0\r", None),
+    ];
+    texts(&[0, 1, 2, 3, 4, 5, 6, 7, 8], 4, &mut |numbers| {
+        let mut text = Vec::new();
+        let mut answers = Vec::new();
+        let mut handed = Vec::new();
+        let mut last: Option<Vec<u8>> = None;
+        for (line, answer) in numbers.iter().map(|n| &steps[usize::from(*n)]) {
+            text.extend_from_slice(line);
+            let command: Vec<u8> = line.iter().filter(|byte| !byte.is_ascii_whitespace()).map(u8::to_ascii_uppercase).collect();
+            let Some(answer) = answer else {
+                last = last.filter(|_| command != b"ATZ");
+                continue;
+            };
+            // A bare CR without a last command is answered `?`, and hands out nothing.
+            let Some(command) = (if command.is_empty() { last.clone() } else { Some(command) }) else { continue };
+            handed.push(command.clone());
+            answers.push(answer.clone());
+            if let Answer::Lines(_) = answer {
+                last = Some(command);
+            }
+        }
+        let whole = reader(vec![text.clone()], answers);
+        to.server_hands(whole.clone(), &handed);
+        to.server_hands(ServerCase { by_byte: true, ..whole.clone() }, &handed);
+        to.server_hands(ServerCase { pieces: text.chunks(1).map(<[u8]>::to_vec).collect(), ..whole }, &handed);
+    });
+}
+
 /// Every length of a line, of an identity string, of a rejection, of a reply's data and of a list of lines, under all settings.
 pub fn server_lengths(to: &mut impl Take) {
     for size in 0..=128 {
@@ -539,6 +589,22 @@ pub fn runs(to: &mut impl Take) {
     forms(to);
 }
 
+/// Document 02 §13: "Hire records may now include queries without any line". Every list of up to four queries of two PIDs, each with a line or without, so that those
+/// without stand first, in between, repeated and last.
+pub fn without_lines(to: &mut impl Take) {
+    texts(&[0, 1, 2, 3], 4, &mut |kinds| {
+        // Each line has data of its own.
+        let asked = |(n, kind): (usize, &u8)| {
+            let pid = [0x05, 0x0D][usize::from(kind % 2)];
+            query(&[pid], None, if *kind < 2 { vec![line(0, &[0x41, pid, n as u8])] } else { Vec::new() })
+        };
+        let queries: Vec<Query> = kinds.iter().enumerate().map(asked).collect();
+        for repeat in [false, true] {
+            to.run(bench(repeat, &queries, &[]));
+        }
+    });
+}
+
 pub fn every(to: &mut impl Take) {
     queries(to);
     client_lengths(to);
@@ -550,9 +616,11 @@ pub fn every(to: &mut impl Take) {
     stored_nulls(to);
     server_lengths(to);
     commands(to);
+    last_commands(to);
     digits(to);
     pluses(to);
     every_pid(to);
     short_replies(to);
     runs(to);
+    without_lines(to);
 }

@@ -1,4 +1,8 @@
 //! Whole bench runs: the Rust's side of a case. A client session of the Rust is joined to a server session of the Rust, in lock step.
+//!
+//! Queries without lines (document 02 §13) are compared in full, query by query and in how the run ends. When one is repeated by a bare CR, the Rust's server hands out an
+//! earlier query, or sends `?`, after which its client sends all queries in full. Either way the answer is the lines of the query under way, so the values are the same;
+//! the commands handed out and repeat support are not, and the log of a run tells neither.
 use crate::client::{config, values};
 use crate::driver::{Driver, Log};
 use crate::plan::{part_bytes, shown, Expected, Part, Plan};
@@ -25,6 +29,14 @@ pub struct Query {
     pub pids: Vec<u8>,
     pub count: Option<u8>,
     pub lines: Vec<Line>,
+}
+
+impl Query {
+    /// The command by which it is handed out: its text without the space.
+    fn command(&self) -> String {
+        let pids: String = self.pids.iter().map(|pid| format!("{pid:02X}")).collect();
+        format!("01{pids}{}", self.count.map_or(String::new(), |count| count.to_string()))
+    }
 }
 
 #[derive(Clone)]
@@ -116,8 +128,8 @@ struct Far {
     stream: Stream,
     /// What the client wrote and the server has not taken.
     written: Vec<u8>,
-    /// The lines of the query under way.
-    lines: Vec<Line>,
+    /// The query under way.
+    query: Query,
     /// Whether ATZ's answer, which is one piece, has been sent.
     reset: bool,
     /// The lent piece lengths that are left.
@@ -136,7 +148,7 @@ impl Far {
             session: ServerSession::new(stream.clone(), Own::usual().identity()),
             stream,
             written: Vec::new(),
-            lines: Vec::new(),
+            query: Query { pids: Vec::new(), count: None, lines: Vec::new() },
             reset: false,
             lengths: lengths.iter().copied().collect(),
             pending: VecDeque::new(),
@@ -156,7 +168,12 @@ impl Far {
         loop {
             match self.session.next_command() {
                 Ok(Command::At(command)) => command.answer().expect("the stream takes all"),
-                Ok(Command::Obd(command)) => command.reply(&reply_lines(&self.lines)).expect("the stream takes all"),
+                Ok(Command::Obd(command)) => {
+                    if command.command() != self.query.command() {
+                        self.seen.push("repeats that the Rust handed out as an earlier query");
+                    }
+                    command.reply(&reply_lines(&self.query.lines)).expect("the stream takes all");
+                }
                 Err(error) => {
                     assert_eq!(error.kind(), ErrorKind::WouldBlock);
                     break;
@@ -232,8 +249,12 @@ impl RunCase {
         let mut parts = Vec::new();
         let mut room = self.room;
         let mut code = COMPLETE;
-        for Query { pids, count, lines } in queries {
-            far.borrow_mut().lines = lines;
+        for query in queries {
+            let (pids, count) = (query.pids.clone(), query.count);
+            if query.lines.is_empty() {
+                plan.seen.push("queries without lines");
+            }
+            far.borrow_mut().query = query;
             far.borrow_mut().longest = 0;
             let part = match pids[..] {
                 [pid] => client.query_pid(pid, count).map(|map| values(map, |lines| lines)),

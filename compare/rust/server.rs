@@ -3,7 +3,7 @@ use crate::driver::{server as kind, Driver, Log, Script};
 use crate::plan::{shown, Expected, Plan};
 use crate::shrink::{shorter, Case};
 use crate::stream::{Arrival, End, Stream};
-use std::fmt::{Debug, Write};
+use std::fmt::Write;
 use std::io::ErrorKind;
 use tachtalk_elm327_lib::{ClientState, Command, Identity, ReplyLine, ServerSession};
 
@@ -63,8 +63,48 @@ struct Handed {
     argument: Vec<u8>,
 }
 
+/// The last command by document 02 §13: "a query answered NO DATA now becomes the server's last command too; a rejected one still doesn't". It is worked out from the
+/// commands that the Rust handed out and from how they were answered.
+#[derive(Default)]
+struct Due {
+    /// Empty where there is none.
+    command: Vec<u8>,
+    /// Whether the latest reply had no lines: only then may the Rust, which such a reply leaves as it was, have another last command.
+    no_data: bool,
+}
+
+impl Due {
+    fn answered(&mut self, Handed { phase, text, call, argument }: &Handed) {
+        match (*phase, *call) {
+            (1, _) if text == b"ATZ" => *self = Due::default(),
+            (2, kind::REPLY) => *self = Due { command: text.clone(), no_data: argument.is_empty() },
+            _ => {}
+        }
+    }
+
+    /// Whether the Rust has another one, for document 02's reason.
+    fn differs(&self, rust: &ClientState) -> bool {
+        self.no_data && self.command != last(rust)
+    }
+}
+
+fn last(of: &ClientState) -> &[u8] {
+    of.last_obd_command.as_ref().map_or(b"", |command| command.as_bytes())
+}
+
+/// What no command keeps.
+fn is_space(byte: &u8) -> bool {
+    matches!(byte, 0x09..=0x0D | 0x20)
+}
+
+/// The Rust's session is given bytes: the command that they end, if it hands one out.
+fn given<'a>(session: &'a mut ServerSession<Stream>, stream: &Stream, bytes: &[u8]) -> Option<Command<'a, Stream>> {
+    stream.load(&[Arrival::Piece(bytes.to_vec())], None);
+    session.next_command().inspect_err(|error| assert_eq!(error.kind(), ErrorKind::WouldBlock)).ok()
+}
+
 /// What only the `Debug` form of a session shows: the line as far as it is read, and how many bytes wait in its buffer.
-fn hidden(session: &impl Debug, text: &mut String) -> (Vec<u8>, usize) {
+fn hidden(session: &ServerSession<Stream>, text: &mut String) -> (Vec<u8>, usize) {
     text.clear();
     write!(text, "{session:?}").expect("a string takes all");
     let number = |name: &str| -> usize {
@@ -102,14 +142,6 @@ pub fn reply_lines(lines: &[Line]) -> Vec<ReplyLine> {
     lines.iter().map(|(ecu, data)| ReplyLine { ecu: *ecu, data: data[..].into() }).collect()
 }
 
-fn state(of: &ClientState, phase: u8, line: Vec<u8>) -> Expected {
-    Expected::Server {
-        settings: [of.echo_enabled, of.linefeeds_enabled, of.spaces_enabled, of.headers_enabled],
-        phase,
-        last: of.last_obd_command.clone().unwrap_or_default().into_bytes(),
-        line,
-    }
-}
 
 impl ServerCase {
     /// Answers a command that the Rust handed out; so many OBD commands were answered before.
@@ -139,6 +171,12 @@ impl ServerCase {
         }
     }
 
+    /// The OBD commands that are handed out, by what is compared.
+    pub fn handed(&self) -> Vec<Vec<u8>> {
+        let text = |(_, expected): (usize, Expected)| if let Expected::Server { phase: 2, line, .. } = expected { Some(line) } else { None };
+        self.plan().expected.into_iter().filter_map(text).collect()
+    }
+
     /// The session is given bytes, of which it takes so many; the last answer is code.
     fn hand_over(&self, plan: &mut Plan, n: usize, bytes: &[u8], taken: usize, code: u8, sent: Vec<u8>) {
         let mut expected = Expected::Calls { calls: 1, code, count: taken, sent };
@@ -156,53 +194,77 @@ impl ServerCase {
     }
 }
 
-/// An entry that shows the session.
-fn look(plan: &mut Plan, n: usize, expected: Expected) {
+/// An entry that shows the session: as the Rust's is, but for the last command where document 02 §13 asks for another.
+fn look(plan: &mut Plan, n: usize, of: &ClientState, due: &Due, phase: u8, line: Vec<u8>) {
+    let settings = [of.echo_enabled, of.linefeeds_enabled, of.spaces_enabled, of.headers_enabled];
+    let by_document = due.differs(of);
+    let last = if by_document { &due.command } else { last(of) }.to_vec();
+    if by_document {
+        plan.seen.push("last commands by document 02 alone");
+    }
     plan.script.look(kind::STATE, &[]);
-    plan.expected.push((n, expected));
+    plan.expected.push((n, Expected::Server { settings, phase, last, by_document, line }));
 }
 
 impl Case for ServerCase {
+    /// The Rust is given what the reader sends line by line, since whether its last command is the due one shows only when the commands before are answered. At a bare
+    /// CR while they differ it gets the due command in full, before the CR: it hands out the same command, and the session is compared to its end.
     fn plan(&self) -> Plan {
         let mut plan = Plan::default();
         let stream = Stream::new(End::Server);
         let mut session = ServerSession::new(stream.clone(), self.own.identity());
+        let mut due = Due::default();
         let mut text = String::new();
         let mut answered = 0;
-        let mut done = 0;
+        // The line as far as it is read, its first bytes perhaps in earlier pieces.
+        let mut line: Vec<u8> = Vec::new();
         for (n, piece) in self.pieces.iter().enumerate().filter(|(_, piece)| !piece.is_empty()) {
-            stream.load(&[Arrival::Piece(piece.clone())], None);
             let mut from = 0;
-            loop {
+            let mut to = 0;
+            let mut sent = Vec::new();
+            for part in piece.split_inclusive(|byte| *byte == b'\r') {
+                to += part.len();
+                line.extend_from_slice(part);
+                let ends = part.ends_with(b"\r");
+                let bare = ends && line.iter().all(is_space);
+                if ends {
+                    line.clear();
+                }
                 let before = session.client_state().clone();
-                let command = match session.next_command() {
-                    Ok(command) => command,
-                    Err(error) => {
-                        assert_eq!(error.kind(), ErrorKind::WouldBlock);
-                        self.hand_over(&mut plan, n, &piece[from..], piece.len() - from, 64, stream.written());
-                        break;
+                let mut left = part;
+                if bare && due.differs(&before) {
+                    let (spaces, cr) = part.split_at(part.len() - 1);
+                    for bytes in [spaces, &due.command].into_iter().filter(|bytes| !bytes.is_empty()) {
+                        assert!(given(&mut session, &stream, bytes).is_none(), "only CR ends a line");
                     }
-                };
-                let sent = stream.written();
-                let (_, waiting) = hidden(&command, &mut text);
-                let to = stream.taken() - waiting - done;
-                let Handed { phase, text: handed, call, argument } = self.answer(command, &mut answered);
-                plan.seen.push(if phase == 1 { "AT commands" } else { "OBD commands" });
-                if piece[from..to].iter().all(|b| b.is_ascii_whitespace() || *b == 11) {
+                    // All that was written is their echo: that of the command goes.
+                    let mut echoed = stream.written();
+                    if before.echo_enabled {
+                        assert_eq!(echoed.split_off(spaces.len()), due.command);
+                    }
+                    sent.extend(echoed);
+                    left = cr;
+                    plan.seen.push("bare CRs that the Rust got in full");
+                }
+                let command = given(&mut session, &stream, left);
+                sent.extend(stream.written());
+                let Some(handed) = command.map(|command| self.answer(command, &mut answered)) else { continue };
+                plan.seen.push(if handed.phase == 1 { "AT commands" } else { "OBD commands" });
+                if bare {
                     plan.seen.push("repeats");
                 }
-                self.hand_over(&mut plan, n, &piece[from..], to - from, 64 + phase, sent);
-                look(&mut plan, n, state(&before, phase, handed));
-                plan.script.call(call, &argument);
-                let sent = stream.written();
-                plan.expected.push((n, Expected::Calls { calls: 1, code: 64, count: 0, sent }));
-                look(&mut plan, n, state(session.client_state(), 0, Vec::new()));
+                self.hand_over(&mut plan, n, &piece[from..], to - from, 64 + handed.phase, std::mem::take(&mut sent));
+                look(&mut plan, n, &before, &due, handed.phase, handed.text.clone());
+                plan.script.call(handed.call, &handed.argument);
+                plan.expected.push((n, Expected::Calls { calls: 1, code: 64, count: 0, sent: stream.written() }));
+                due.answered(&handed);
+                look(&mut plan, n, session.client_state(), &due, 0, Vec::new());
                 from = to;
             }
-            done += piece.len();
-            let (line, waiting) = hidden(&session, &mut text);
+            self.hand_over(&mut plan, n, &piece[from..], piece.len() - from, 64, sent);
+            let (begun, waiting) = hidden(&session, &mut text);
             assert_eq!(waiting, 0);
-            look(&mut plan, n, state(session.client_state(), 0, line));
+            look(&mut plan, n, session.client_state(), &due, 0, begun);
         }
         plan
     }

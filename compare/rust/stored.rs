@@ -342,6 +342,20 @@ fn reader_lines(to: &mut Store) {
     }
 }
 
+/// Document 02 §13: replies without lines make their command the last one. Bare CRs after them, in one line and over several pieces, with white space and without echo;
+/// a rejection, ATZ and a reply with a line after them; and the longest command.
+fn last_commands(to: &mut Store) {
+    let line = || Answer::Lines(vec![(Some(0x7E9), vec![0x41, 0x0D, 0x20])]);
+    let none = || Answer::Lines(Vec::new());
+    let rejected = || Answer::Text("NO DATA".to_string());
+    to.server(reader(vec![b"010C\r010D\r\r010C\r\r".to_vec()], vec![line(), none(), none(), line(), line()]));
+    to.server(reader(vec![b"010D\r \n".to_vec(), b"\t".to_vec(), b"\r\r\r".to_vec()], vec![none(), rejected(), line(), none()]));
+    to.server(reader(vec![b"ATE0\r010d\r010C\r \r\r".to_vec()], vec![none(), rejected(), none(), line()]));
+    to.server(reader(vec![b"010D\r\rATZ\r\r".to_vec()], vec![none()]));
+    to.server(reader(b"0 1\0c\r\r".iter().map(|byte| vec![*byte]).collect(), vec![none(), line()]));
+    to.server(reader(vec![[&[b'2'; 127], &b"3\r\r"[..]].concat()], vec![none(), line()]));
+}
+
 /// Lengths at and next to the limits: lines, identity strings, rejections, data, and lists of lines.
 fn server_limits(to: &mut Store) {
     let one = || Answer::Lines(vec![(Some(0xFFF), vec![0x41, 0x0D, 0x20])]);
@@ -500,6 +514,8 @@ pub fn stored() -> Store {
     at_commands(&mut to);
     to.head("a reader's lines", 1, 900);
     reader_lines(&mut to);
+    to.head("last commands from NO DATA on", 1, 1500);
+    last_commands(&mut to);
     to.head("server at its limits", 1, 3000);
     server_limits(&mut to);
     to.head("bench runs", 1, 4000);

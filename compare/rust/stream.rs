@@ -44,8 +44,6 @@ struct Wire {
     /// How many writes go well before one fails.
     failed_write: Option<usize>,
     events: Vec<Event>,
-    /// How many bytes were read.
-    taken: usize,
 }
 
 /// One end is the session's, a clone of it the other's.
@@ -60,7 +58,6 @@ impl Stream {
             end,
             failed_write: None,
             events: Vec::new(),
-            taken: 0,
         })))
     }
 
@@ -93,10 +90,6 @@ impl Stream {
             }
         }
         all
-    }
-
-    pub fn taken(&self) -> usize {
-        self.0.borrow().taken
     }
 
     /// The pieces of 00 alone that are next to arrive.
@@ -178,7 +171,6 @@ impl Read for Stream {
                     }
                     let n = given.len();
                     buffer[..n].copy_from_slice(&given);
-                    wire.taken += n;
                     wire.events.push(Event::Read(Arrival::Piece(bytes)));
                     return Ok(n);
                 }
