@@ -142,7 +142,6 @@ pub fn reply_lines(lines: &[Line]) -> Vec<ReplyLine> {
     lines.iter().map(|(ecu, data)| ReplyLine { ecu: *ecu, data: data[..].into() }).collect()
 }
 
-
 impl ServerCase {
     /// Answers a command that the Rust handed out; so many OBD commands were answered before.
     fn answer(&self, command: Command<Stream>, answered: &mut usize) -> Handed {
