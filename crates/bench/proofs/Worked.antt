@@ -1,6 +1,6 @@
 -- Document 01's worked example of a run; the same script twice in a record of nine bytes; queries with no data, also repeated (document 02 §13); a malformed script.
 use mathlib.Core.Path.{_≡_, refl}
-use mathlib.Core.Bool.{true}
+use mathlib.Core.Bool.{true, false}
 use mathlib.Core.List.{List, [], _∷_, _++_}
 use Prim.Native.Nat.{ℕ}
 use Rattle.wire.specs.Answer.{result, refused, unless}
