@@ -13,7 +13,7 @@ use Rattle.wire.specs.declared.Count.the-variants.{Is, Refused}
 use Rattle.wire.proofs.UnlessLaws.{unless-by}
 use Rattle.wire.proofs.Cases.{or-none}
 use Rattle.group.specs.Group.{isMalformed, listOf}
-use Rattle.line_list.specs.Lines.{Line, lineList}
+use Rattle.line_list.specs.Lines.{lineList}
 use Rattle.wire.specs.Put.{Put, countWritten}
 use Rattle.wire.specs.Text.{ascii}
 use Rattle.wire.proofs.PutLaws.{put-whole}
@@ -33,7 +33,7 @@ use Rattle.server_session.specs.declared.ServerSession.{ServerSession}
 use Rattle.server_session.specs.declared.ServerStep.{ServerStep}
 use Rattle.server_session.specs.Session.{Session, session}
 use Rattle.server_session.specs.Call.{ServerSaid, serverRefusing, ServerServed, serverStep, serverLent}
-use Rattle.server_session.specs.Replies.{lineAwaited, atAnswered, answerSays, isObd, replySays, rejectSays}
+use Rattle.server_session.specs.Replies.{lineAwaited, atAnswered, answerSays, isObd, obdReplied, replySays, rejectSays}
 
 -- the step that sends what was written, with some settings, and the one that is refused
 abbrev pub sentStep : ClientState → List ℕ → ℕ → ServerStep
@@ -102,10 +102,6 @@ module _ (self : ServerSession) (list : List ℕ) (out left : List ℕ) (turn : 
   abbrev hd : Bool
   hd = s .state .headers
 
-  -- what is said of a list with these lines
-  abbrev repliedTo : List Line → ServerSaid
-  repliedTo ls = lineAwaited (withLast (s .state) (s .line)) (replyText lf sp hd ls)
-
   pub reply-refused : (r : Refusal) → countWritten (Refused r) left ≡ R.replied lf sp hd list out →
       serverStep (refusedStep self r) left ≡ serverLent (replySays (length out) s list) out
   unfolding replySays unless
@@ -113,7 +109,7 @@ module _ (self : ServerSession) (list : List ℕ) (out left : List ℕ) (turn : 
       let text = replyText lf sp hd (listOf (lineList list)) in
       let rows : List (Bool × ℕ) = (isMalformed (lineList list), 5) ∷ (ltb (length out) (length text), 6) ∷ [] in
       let q₁ = q ∙ replied-rows lf sp hd list out in
-      let says = refused-same out text left rows (serverRefusing s) (repliedTo (listOf (lineList list))) r q₁ in
+      let says = refused-same out text left rows (serverRefusing s) (obdReplied s (listOf (lineList list))) r q₁ in
       let kept = refused-out out text left rows r q₁ in
       rw (turn, says, kept)
 
@@ -124,7 +120,7 @@ module _ (self : ServerSession) (list : List ℕ) (out left : List ℕ) (turn : 
   reply-sent n state q k =
       let (ls, rest, g, fits, p) = written-told lf sp hd list out q in
       let text = replyText lf sp hd ls in
-      let e : replySays (length out) s list ≡ repliedTo ls = rw (turn, g, le-ltb (length out) (length text) fits) in
+      let e : replySays (length out) s list ≡ obdReplied s ls = rw (turn, g, le-ltb (length out) (length text) fits) in
       sent state (self .line) text p fits ∙ ap (λ x. serverLent (lineAwaited x text) out) k ∙ ap (λ d. serverLent d out) (sym e)
 
 -- What the contracts give a caller: the bytes to send stand inside the lent buffer.

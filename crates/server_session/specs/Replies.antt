@@ -10,7 +10,7 @@ use Rattle.wire.specs.Answer.{unless}
 use Rattle.wire.specs.Text.{high}
 use Rattle.client_state.specs.Settings.{Settings, withLast}
 use Rattle.group.specs.Group.{isMalformed, listOf}
-use Rattle.line_list.specs.Lines.{lineList}
+use Rattle.line_list.specs.Lines.{Line, lineList}
 use Rattle.at_command.specs.Dialect.{atKind, kindSettings, kindLines}
 use Rattle.reply.specs.Shape.{chipReply}
 use Rattle.reply.specs.Reply.{replyText}
@@ -50,11 +50,14 @@ answerSays room s ati device =
     (ltb room 48, 6) ∷ [])
     (serverRefusing s) (atAnswered s ati device)
 
--- a reply: no OBD command is handed out; not a line list; a text longer than the room. Where it gets no number the command becomes the last one, with lines or without
+-- the command is replied to, with lines or with NO DATA, and becomes the last one
+abbrev pub obdReplied : Session → List Line → ServerSaid
+obdReplied s ls = lineAwaited (withLast (s .state) (s .line)) (replyText (s .state .linefeeds) (s .state .spaces) (s .state .headers) ls)
+
+-- a reply: no OBD command is handed out; not a line list; a text longer than the room
 unfoldable pub replySays : ℕ → Session → List ℕ → ServerSaid
 replySays room s list =
-    let ls = listOf (lineList list) in
-    let d = lineAwaited (withLast (s .state) (s .line)) (replyText (s .state .linefeeds) (s .state .spaces) (s .state .headers) ls) in
+    let d = obdReplied s (listOf (lineList list)) in
     unless (
     (not (isObd (s .phase)), 1) ∷
     (isMalformed (lineList list), 5) ∷
