@@ -1,5 +1,6 @@
 //! Cases whose logs are written by hand: document 01's numbers, at their limits from both sides, with what each leaves in the session, and document 02's order of
-//! PIDs, its 00 bytes, its pluses and its last command after NO DATA. No log here is taken from the Rust's answers or from this library's. The state is shown before the first call and after each.
+//! PIDs, its 00 bytes, its pluses and its last command after NO DATA. No log here is taken from the Rust's answers or from this library's. The state is shown before the
+//! first call and after each.
 use crate::driver::{client, server, Script};
 use crate::every::WORKED;
 use crate::plan::{put_call, put_number, put_text};

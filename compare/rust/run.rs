@@ -1,8 +1,8 @@
 //! Whole bench runs: the Rust's side of a case. A client session of the Rust is joined to a server session of the Rust, in lock step.
 //!
-//! Queries without lines (document 02 §13) are compared in full, query by query and in how the run ends. When one is repeated by a bare CR, the Rust's server hands out an
-//! earlier query, or sends `?`, after which its client sends all queries in full. Either way the answer is the lines of the query under way, so the values are the same;
-//! the commands handed out and repeat support are not, and the log of a run tells neither.
+//! Queries without lines (document 02 §13) are compared in full, query by query and in how the run ends. When one is repeated by a bare CR, the Rust's server may hand out
+//! an earlier query, or send `?`, after which its client sends all queries in full. Either way the answer is the lines of the query under way, so the values are the same;
+//! the commands handed out and repeat support may not be, and the log of a run tells neither.
 use crate::client::{config, values};
 use crate::driver::{Driver, Log};
 use crate::plan::{part_bytes, shown, Expected, Part, Plan};

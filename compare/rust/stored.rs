@@ -342,7 +342,7 @@ fn reader_lines(to: &mut Store) {
     }
 }
 
-/// Document 02 §13: replies without lines make their command the last one. Bare CRs after them, in one line and over several pieces, with white space and without echo;
+/// Document 02 §13: replies without lines make their command the last one. Bare CRs after them, in one piece and over several, with white space and without echo;
 /// a rejection, ATZ and a reply with a line after them; and the longest command.
 fn last_commands(to: &mut Store) {
     let line = || Answer::Lines(vec![(Some(0x7E9), vec![0x41, 0x0D, 0x20])]);

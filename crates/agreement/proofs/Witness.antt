@@ -127,9 +127,9 @@ unfolding has high isSpace raised hexDigit digit j1979 mode01Lengths groupBytes 
     replyTakes pieceSays finishSays script queryFormat exchanged pieces initialised part runSays
 ended6-run = record { ran = record { bytes = low-at (scriptOf unknown) refl; ran = refl }; reads = refl; handed = refl }
 
--- the same with a last query, never asked, that has no line
+-- the same with a last query, never asked, whose line does not start with 41
 abbrev unasked : List Query
-unasked = engine 0 0xF8 ∷ engine 0 0xF8 ∷ speeds 0 (0x0C ∷ 0x1A ∷ 0xF8 ∷ 0x0D ∷ 0x20 ∷ []) ∷ query (0x0C ∷ []) 0 [] ∷ []
+unasked = engine 0 0xF8 ∷ engine 0 0xF8 ∷ speeds 0 (0x0C ∷ 0x1A ∷ 0xF8 ∷ 0x0D ∷ 0x20 ∷ []) ∷ query (0x0C ∷ []) 0 (line 0 (0x7F ∷ 0x01 ∷ 0x12 ∷ []) ∷ []) ∷ []
 
 abbrev lastUnasked : Drive
 lastUnasked = drive true [] (scriptOf unasked) (replicate 20 0) ((1 ∷ engineValue 0xF8) ++ (1 ∷ engineValue 0xF8) ++ (0 ∷ 0 ∷ [])) (record { answer = Refused refusal.SmallBuffer; written = 18 })
@@ -445,9 +445,9 @@ unfolding has high isSpace raised hexDigit digit j1979 mode01Lengths groupBytes 
     replyTakes pieceSays finishSays script queryFormat exchanged pieces initialised part runSays
 silent-full-run = record { ran = record { bytes = low-at (silentFull .scriptBytes) refl; ran = refl }; reads = refl; handed = refl }
 
-none-stands : firstParts 1 (hireRecord silentRun) ≡ firstParts 1 (hireRecord silentFull)
+silent-stands : firstParts 1 (hireRecord silentRun) ≡ firstParts 1 (hireRecord silentFull)
 unfolding readRecord valueFormat
-none-stands =
+silent-stands =
     let L : (ℕ → ℕ) = λ p. 0 in
     let holds = agreement silentRun silentFull (silent-run .ran) (silent-full-run .ran) .before 1 (omega arith) (omega arith)
     (good-first silent-run L 1 (tt, tt)) (good-first silent-full-run L 1 (tt, tt)) in

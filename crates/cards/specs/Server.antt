@@ -82,7 +82,7 @@ serverExamples =
     example "its 13 bytes in room for 12" (replySays 12 (afterLine freshSession "010D") speedLine .answer) (refused 6) ∷
     example "then CR hands it out again" (afterLine afterReply "" .phase ∷ []) (ObdCommand ∷ []) ∷
     example "as it was" (afterLine afterReply "" .line) (ascii "010D") ∷
-    example "a reply without lines, which becomes the last command too" (serverLent (replySays 12 (afterLine afterReply "010C") []) (replicate 13 9))
+    example "a reply without lines, whose command becomes the last one too" (serverLent (replySays 12 (afterLine afterReply "010C") []) (replicate 13 9))
     (serverStep (record { answer = answer.Reading; taken = 0; written = 12; session = serverHolding "010C" "" Reading }) (withPrompt "NO DATA" ++ (9 ∷ []))) ∷
     example "a rejection" (rejectSays 64 (afterLine afterReply "010C") (ascii "UNABLE TO CONNECT") .text) (withPrompt "UNABLE TO CONNECT") ∷
     example "it leaves the last command" (rejectSays 64 (afterLine afterReply "010C") (ascii "?") .next .state .last) (ascii "010D") ∷
