@@ -170,7 +170,8 @@ repeats =
     example "and without linefeeds 10"
     (replyLeaves 9 (afterLine (afterAnswers afterReply quiet) "010C") [] ∷ replyLeaves 10 (afterLine (afterAnswers afterReply quiet) "010C") [] ∷ [])
     ((refused 6, ascii "010D", ObdCommand, ascii "010C") ∷ (result Reading, ascii "010C", Reading, []) ∷ []) ∷
-    example "an exchange with no lines" (exchanged 60 freshSession (ascii "010D\r") []) (record { next = afterNoData freshSession "010D"; text = withPrompt "010D\rNO DATA"; handed = ascii "010D" ∷ [] }) ∷
+    example "an exchange with no lines" (exchanged 60 freshSession (ascii "010D\r") [])
+    (record { next = afterNoData freshSession "010D"; text = withPrompt "010D\rNO DATA"; handed = ascii "010D" ∷ [] }) ∷
     example "and of CR after it" (exchanged 60 (afterNoData freshSession "010D") (ascii "\r") [])
     (record { next = afterNoData freshSession "010D"; text = withPrompt "\rNO DATA"; handed = ascii "010D" ∷ [] }) ∷
     []
