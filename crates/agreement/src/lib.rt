@@ -6,7 +6,7 @@ ghost use Rattle.agreement.specs.Demand.{drive, Agreement};
 
 use bench::BenchRun;
 
-#[derive(Drop)]
+#[derive(Clone, Copy)]
 pub struct TwoRuns {
     pub one: BenchRun,
     pub two: BenchRun,

@@ -7,7 +7,7 @@ ghost use Rattle.at_command.specs.Dialect.{is_text, starts_with, at_kind, kind_s
 use client_state::ClientState;
 
 // A switch among the settings.
-#[derive(Drop)]
+#[derive(Clone, Copy)]
 pub enum Setting {
     Echo,
     Linefeeds,
@@ -16,14 +16,14 @@ pub enum Setting {
 }
 
 // One of the two identity strings: ATI's, and AT@1's device description.
-#[derive(Drop)]
+#[derive(Clone, Copy)]
 pub enum IdentityText {
     Ati,
     Device,
 }
 
 // What an AT command is to the server.
-#[derive(Drop)]
+#[derive(Clone, Copy)]
 pub enum AtKind {
     // ATZ
     Reset,
@@ -42,7 +42,7 @@ pub enum AtKind {
     Unknown,
 }
 
-#[derive(Drop)]
+#[derive(Clone, Copy)]
 pub struct AtHandled {
     pub state: ClientState,
     pub kind: AtKind,

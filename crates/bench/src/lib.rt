@@ -16,14 +16,14 @@ use server_session::ServerSession;
 use wire::{Count, Refusal};
 
 // How a run ended.
-#[derive(Drop)]
+#[derive(Clone, Copy)]
 pub enum RunAnswer {
     Complete,
     // 3 or 5 before anything ran; 8, or 6 when a query's part overruns the record buffer.
     Refused(Refusal),
 }
 
-#[derive(Drop)]
+#[derive(Clone, Copy)]
 pub struct BenchRun {
     pub answer: RunAnswer,
     // How many bytes of the record stand.
@@ -31,12 +31,12 @@ pub struct BenchRun {
 }
 
 // A position in a script, where a query starts.
-#[derive(Drop)]
+#[derive(Clone, Copy)]
 struct ScriptCursor {
     at: usize,
 }
 
-#[derive(Drop)]
+#[derive(Clone, Copy)]
 enum QueryStep {
     // Where the PIDs start and how many they are (1 to 6), ECU count+1 (0 for none, at most 256), and where the line list
     // of its lines starts; it ends where the next query starts.
@@ -52,7 +52,7 @@ enum QueryStep {
 }
 
 // Both sessions, and how many piece lengths are used up.
-#[derive(Drop)]
+#[derive(Clone, Copy)]
 struct Bench {
     client: ClientSession,
     server: ServerSession,
@@ -60,7 +60,7 @@ struct Bench {
 }
 
 // What the server did for a command.
-#[derive(Drop)]
+#[derive(Clone, Copy)]
 struct ExchangeStep {
     // How many bytes of out the server sends.
     written: usize,
@@ -68,7 +68,7 @@ struct ExchangeStep {
 }
 
 // What the client was told.
-#[derive(Drop)]
+#[derive(Clone, Copy)]
 struct Delivery {
     // What the last piece that was given says.
     answer: ClientAnswer,
@@ -80,7 +80,7 @@ struct Delivery {
 }
 
 // Where the run stands after a command.
-#[derive(Drop)]
+#[derive(Clone, Copy)]
 struct Round {
     // What the reply said to the client.
     answer: ClientAnswer,
@@ -89,7 +89,7 @@ struct Round {
     bench: Bench,
 }
 
-#[derive(Drop)]
+#[derive(Clone, Copy)]
 struct PartStep {
     // How many values a query gave, or the number that ends the run.
     answer: Count,

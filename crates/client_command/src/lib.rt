@@ -4,7 +4,7 @@ ghost use Rattle.wire.specs.Put.{Put};
 ghost use Rattle.client_command.specs.Commands.{with_cr, is_command, framing_effect, setup_text};
 
 // What a completed raw command does to framing.
-#[derive(Drop)]
+#[derive(Clone, Copy)]
 pub enum FramingEffect {
     Kept,
     // ATH1

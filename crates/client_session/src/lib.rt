@@ -14,7 +14,7 @@ use server_state::{FeatureSupport, ServerState};
 use wire::Refusal;
 
 // A command whose reply is awaited.
-#[derive(Drop)]
+#[derive(Clone, Copy)]
 pub enum Command {
     // ATZ of the initialisation.
     Reset,
@@ -28,7 +28,7 @@ pub enum Command {
 }
 
 // What is under way.
-#[derive(Drop)]
+#[derive(Clone, Copy)]
 pub enum Under {
     Idle,
     Awaiting(Command),
@@ -37,13 +37,13 @@ pub enum Under {
 }
 
 // What is under way, and how many bytes of its reply the store holds.
-#[derive(Drop)]
+#[derive(Clone, Copy)]
 pub struct Pending {
     pub under: Under,
     pub got: usize,
 }
 
-#[derive(Drop)]
+#[derive(Clone, Copy)]
 pub struct ClientSession {
     // The initialisation asks for CAN headers.
     pub want_framing: bool,
@@ -60,7 +60,7 @@ pub struct ClientSession {
 }
 
 // What a call says.
-#[derive(Drop)]
+#[derive(Clone, Copy)]
 pub enum ClientAnswer {
     // A command is to be sent, and its reply is awaited.
     Sent,
@@ -78,7 +78,7 @@ pub enum ClientAnswer {
     Failed(Refusal),
 }
 
-#[derive(Drop)]
+#[derive(Clone, Copy)]
 pub struct ClientStep {
     pub answer: ClientAnswer,
     // How many bytes of out are to be sent, or are values.
@@ -87,7 +87,7 @@ pub struct ClientStep {
 }
 
 // What the host failed to do.
-#[derive(Drop)]
+#[derive(Clone, Copy)]
 pub enum Failure {
     Read,
     Write,

@@ -3,7 +3,7 @@ ghost use Rattle.std.specs.Prelude.{◌≡◌, length};
 ghost use Rattle.wire.specs.Put.{Put};
 ghost use Rattle.client_state.specs.Settings.{settings, fresh, line_ending, with_last};
 
-#[derive(Drop)]
+#[derive(Clone, Copy)]
 pub struct ClientState {
     // Received bytes are sent back (ATE0, ATE1).
     pub echo_enabled: bool,

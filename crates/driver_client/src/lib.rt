@@ -16,7 +16,7 @@ use query::EcuCount;
 use server_state::{FeatureSupport, ServerState};
 
 // A session after some calls of a script, and the position in the log after their entries.
-#[derive(Drop)]
+#[derive(Clone, Copy)]
 struct ClientTurn {
     session: ClientSession,
     at: usize,

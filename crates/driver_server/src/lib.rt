@@ -12,7 +12,7 @@ use client_state::ClientState;
 use server_session::{Phase, ServerAnswer, ServerSession};
 
 // A session after some calls of a script, and the position in the log after their entries.
-#[derive(Drop)]
+#[derive(Clone, Copy)]
 struct ServerTurn {
     session: ServerSession,
     at: usize,

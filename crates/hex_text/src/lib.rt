@@ -5,14 +5,14 @@ ghost use Rattle.hex_text.specs.Read.{digit, hex_number};
 ghost use Rattle.hex_text.specs.Digits.{hex_digit, hex_digits, hex_byte};
 ghost use Rattle.hex_text.specs.Answers.{digit_of, hex_of};
 
-#[derive(Drop)]
+#[derive(Clone, Copy)]
 pub enum HexDigit {
     Digit(u8),
     Bad,
 }
 
 // The number of a pair or an id.
-#[derive(Drop)]
+#[derive(Clone, Copy)]
 pub enum HexNumber {
     Number(u16),
     Bad,

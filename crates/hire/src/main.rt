@@ -6,7 +6,7 @@ use libc::{STDERR_FILENO, STDIN_FILENO, STDOUT_FILENO};
 use wire::Count;
 
 // How many bytes were read, and whether the last read failed.
-#[derive(Drop)]
+#[derive(Clone, Copy)]
 struct Input {
     size: usize,
     failed: bool,

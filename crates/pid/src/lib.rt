@@ -58,7 +58,7 @@ pub const MODE01_PID_DATA_LENGTHS: PidDataLengths = [
 ];
 
 // How many data bytes follow a PID.
-#[derive(Drop)]
+#[derive(Clone, Copy)]
 pub enum DataLength {
     Known(u8),
     Unknown,

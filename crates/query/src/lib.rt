@@ -4,7 +4,7 @@ ghost use Rattle.hex_text.specs.Digits.{hex_bytes};
 ghost use Rattle.query.specs.Query.{decimal, count_text, count_of, text_of_query};
 
 // How many ECUs a query waits for, if it says so.
-#[derive(Drop)]
+#[derive(Clone, Copy)]
 pub enum EcuCount {
     Any,
     Given(u8),

@@ -8,7 +8,7 @@ ghost use Rattle.query_text.specs.Text.{text};
 use query::EcuCount;
 
 // The first len of the bytes. The longest query has 18: 01, six PIDs, a space and three digits.
-#[derive(Drop)]
+#[derive(Clone, Copy)]
 pub struct QueryText {
     pub bytes: [u8; 18],
     pub len: usize,

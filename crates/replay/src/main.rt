@@ -8,7 +8,7 @@ ghost use Rattle.replay.specs.Compare.{agreeing, judged, tallied, Within};
 use libc::{STDIN_FILENO, STDOUT_FILENO};
 
 // Where an entry's texts start, each ending where the next starts, and where the next entry does.
-#[derive(Drop)]
+#[derive(Clone, Copy)]
 struct Entry {
     kind: u8,
     room: usize,
@@ -19,14 +19,14 @@ struct Entry {
 }
 
 // Whether a log is the stored one, or else in how many bytes they agree from their start.
-#[derive(Drop)]
+#[derive(Clone, Copy)]
 enum Verdict {
     Same,
     Differs(usize),
 }
 
 // How many cases stand under a heading, and which of them is the first that differs, 0 for none, and where.
-#[derive(Drop)]
+#[derive(Clone, Copy)]
 struct Tally {
     cases: usize,
     first: usize,

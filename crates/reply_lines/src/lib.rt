@@ -11,7 +11,7 @@ ghost use Rattle.reply_lines.specs.Steps.{to_cr, is_skipped, CharAt, HeadOf};
 use hex_text::HexNumber;
 
 // The next line of a reply that counts.
-#[derive(Drop)]
+#[derive(Clone, Copy)]
 pub enum TextStep {
     // Its text is reply[start..end]; the next line is looked for from next on.
     Text {
@@ -23,7 +23,7 @@ pub enum TextStep {
 }
 
 // A line's ECU+1, 0 when unknown, and how many bytes of data it has.
-#[derive(Drop)]
+#[derive(Clone, Copy)]
 pub struct Decoded {
     pub ecu: u16,
     pub len: usize,
@@ -129,7 +129,7 @@ pub fn next_line(reply: &[u8], at: usize) -> TextStep
 }
 
 // A reader that walks the lines of one lent reply. The work is done on a slice and a number; the functions over LineReader take it apart and are thin.
-#[derive(Drop)]
+#[derive(Clone, Copy)]
 pub struct LineReader<'a> {
     pub reply: &'a [u8],
     // The next line is looked for from here on.
@@ -219,7 +219,7 @@ pub fn first_text<'a>(reply: &'a [u8]) -> &'a [u8]
 }
 
 // A line's first characters, at most five, and where the rest of it starts.
-#[derive(Drop)]
+#[derive(Clone, Copy)]
 struct Head {
     chars: [u8; 5],
     len: usize,

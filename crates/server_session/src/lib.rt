@@ -17,7 +17,7 @@ use client_state::ClientState;
 use wire::{Refusal, Verdict};
 
 // Who speaks next.
-#[derive(Drop)]
+#[derive(Clone, Copy)]
 pub enum Phase {
     // A line is read.
     Reading,
@@ -28,13 +28,13 @@ pub enum Phase {
 }
 
 // Whose turn it is, and how many bytes of line are the line as far as it is read, or the command handed out.
-#[derive(Drop)]
+#[derive(Clone, Copy)]
 pub struct Turn {
     pub phase: Phase,
     pub len: usize,
 }
 
-#[derive(Drop)]
+#[derive(Clone, Copy)]
 pub struct ServerSession {
     pub state: ClientState,
     // The line as far as it is read, or the command handed out: its first turn.len bytes.
@@ -43,7 +43,7 @@ pub struct ServerSession {
 }
 
 // What a call did.
-#[derive(Drop)]
+#[derive(Clone, Copy)]
 pub enum ServerAnswer {
     // It was taken or is to be sent, and a line is read.
     Reading,
@@ -54,7 +54,7 @@ pub enum ServerAnswer {
     Refused(Refusal),
 }
 
-#[derive(Drop)]
+#[derive(Clone, Copy)]
 pub struct ServerStep {
     pub answer: ServerAnswer,
     // How many bytes of the input were taken.
@@ -65,7 +65,7 @@ pub struct ServerStep {
 }
 
 // What reading goes by of the settings: echo, linefeeds, and how many bytes the last command has, 0 where there is none.
-#[derive(Drop)]
+#[derive(Clone, Copy)]
 struct Flags {
     echo: bool,
     linefeeds: bool,
@@ -74,7 +74,7 @@ struct Flags {
 
 // What bytes did: the answer to the last one that was looked at, the turn then, how many were taken, the position in out after what is sent, and whether the
 // last command is to be put into the line.
-#[derive(Drop)]
+#[derive(Clone, Copy)]
 struct Did {
     answer: ServerAnswer,
     turn: Turn,
@@ -84,7 +84,7 @@ struct Did {
 }
 
 // A run of bytes that joined the line: where it ends in the line, in the input, and in out with what was sent back.
-#[derive(Drop)]
+#[derive(Clone, Copy)]
 struct Run {
     len: usize,
     next: usize,

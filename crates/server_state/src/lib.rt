@@ -8,7 +8,7 @@ use pid::DataLength;
 use query::EcuCount;
 
 // Whether the peer supports an optional feature.
-#[derive(Drop)]
+#[derive(Clone, Copy)]
 pub enum FeatureSupport {
     // Not yet tested.
     Unknown,
@@ -50,7 +50,7 @@ impl FeatureSupport {
     }
 }
 
-#[derive(Drop)]
+#[derive(Clone, Copy)]
 pub struct ServerState {
     // CAN headers are on (ATH1 was completed last).
     pub framing: bool,

@@ -1,12 +1,14 @@
 // Bytes written into lent buffers, and texts looked at. Every writer of this library stores as far as the buffer reaches
 // and returns the position after what it stored, so writers follow one another with nothing asked in between.
+#![tactic(auto)]
+
 ghost use Rattle.wire.specs.Answer.{number};
 ghost use Rattle.wire.specs.Put.{Put};
 ghost use Rattle.wire.specs.Text.{same, begins, has, high, is_space, raised};
 ghost use Rattle.std.specs.Prelude.{[], ◌∷◌, min, ◌≡◌};
 
 // Why a call gives no result: a case for each number of document 01, in their order.
-#[derive(Drop)]
+#[derive(Clone, Copy)]
 pub enum Refusal {
     // 1: it is not this call's turn.
     OutOfTurn,
@@ -33,14 +35,14 @@ pub enum Refusal {
 }
 
 // Whether a call is refused, found out before it does anything.
-#[derive(Drop)]
+#[derive(Clone, Copy)]
 pub enum Verdict {
     Accepted,
     Refused(Refusal),
 }
 
 // How many, or why a call does not tell: so many lines or bytes, or the position after those that were written.
-#[derive(Drop)]
+#[derive(Clone, Copy)]
 pub enum Count {
     Is(usize),
     Refused(Refusal),

@@ -1,0 +1,9 @@
+-- `wire::put_byte` meets its contract.
+use Rattle.wire.proofs.PutLaws.{put_room, put_full}
+use Rattle.wire.proofs.put_byte.Goals as goal
+
+pub returns-then-at-out : goal.returns-then-at-out
+returns-then-at-out c = put_room _ _ _ c.if-at-out.true
+
+pub returns : goal.returns
+returns c = put_full _ _ _ c.if-at-out.false
