@@ -4,7 +4,7 @@ mod replies;
 
 ghost use Rattle.std.specs.Prelude.{◌≡◌, cond, ◌&&◌, not, List, [], ◌∷◌, ℕ, ◌+◌, ◌-◌, ◌≤◌, min, eqb, leb, length, take};
 ghost use Rattle.wire.specs.declared.Refusal.{Refusal};
-ghost use Rattle.wire.specs.Answer.{result};
+ghost use Rattle.wire.specs.Answer.{result as answered};
 ghost use Rattle.wire.specs.Steps.{settled};
 ghost use Rattle.wire.specs.Put.{Put};
 ghost use Rattle.client_state.specs.Settings.{Settings};
@@ -92,7 +92,7 @@ struct Run {
 }
 
 fn is_reading(phase: Phase) -> bool
-    ensures* { λ r. ⌜ r ≡ is_reading phase ⌝ }
+    ensures { result ≡ is_reading phase }
 {
     match phase {
         Phase::Reading => true,
@@ -103,7 +103,7 @@ fn is_reading(phase: Phase) -> bool
 
 // No command is handed out, and no byte read.
 fn line_awaited() -> Turn
-    ensures* { λ r. ⌜ r ≡ record { phase = Phase.Reading; len = 0 } ⌝ }
+    ensures { result ≡ record { phase = Phase.Reading; len = 0 } }
 {
     let phase = Phase::Reading;
     Turn { phase, len: 0 }
@@ -111,7 +111,7 @@ fn line_awaited() -> Turn
 
 // The answer that tells of a phase.
 fn phase_answer(phase: Phase) -> ServerAnswer
-    ensures* { λ r. ⌜ server_answer r ≡ result phase ⌝ }
+    ensures { server_answer result ≡ answered phase }
 {
     match phase {
         Phase::Reading => ServerAnswer::Reading,
@@ -121,7 +121,7 @@ fn phase_answer(phase: Phase) -> ServerAnswer
 }
 
 fn goes_on(answer: ServerAnswer) -> bool
-    ensures* { λ r. ⌜ r ≡ goes_on (server_answer answer) ⌝ }
+    ensures { result ≡ goes_on (server_answer answer) }
 {
     match answer {
         ServerAnswer::Reading => true,
@@ -133,7 +133,7 @@ fn goes_on(answer: ServerAnswer) -> bool
 
 // Whether a byte does more than join the line.
 fn is_special(byte: u8) -> bool
-    ensures* { λ r. ⌜ r ≡ is_special byte ⌝ }
+    ensures { result ≡ is_special byte }
 {
     if 128 <= byte {
         return true;
@@ -146,7 +146,7 @@ fn is_special(byte: u8) -> bool
 
 // Whether a line of that size has no place for a byte: CR and LF need none.
 fn is_full(size: usize, byte: u8) -> bool
-    ensures* { λ r. ⌜ r ≡ leb 128 size && (not (eqb byte 13) && not (eqb byte 10)) ⌝ }
+    ensures { result ≡ leb 128 size && (not (eqb byte 13) && not (eqb byte 10)) }
 {
     if size < 128 {
         return false;
@@ -162,7 +162,7 @@ fn is_full(size: usize, byte: u8) -> bool
 
 // How much of a buffer is left from a position on.
 fn room_at(size: usize, at: usize) -> usize
-    ensures* { λ r. ⌜ r ≡ size - at ⌝ }
+    ensures { result ≡ size - at }
 {
     if at < size {
         return size - at;
@@ -173,7 +173,7 @@ fn room_at(size: usize, at: usize) -> usize
 // Makes the first size bytes of a line their command, in place: how many bytes it has.
 fn make_canonical(line: &mut [u8; 128], size: usize) -> usize
     requires { (size ≤ 128) × (length line.old ≡ 128) }
-    ensures* { λ r. ⌜ (take r line.new ≡ canonical (take size line.old)) × (length line.new ≡ 128) ⌝ }
+    ensures { (take result line.new ≡ canonical (take size line.old)) × (length line.new ≡ 128) }
 {
     let mut n: usize = 0;
     let mut i: usize = 0;
@@ -192,7 +192,7 @@ fn make_canonical(line: &mut [u8; 128], size: usize) -> usize
 
 // The kind of the command that the first n bytes of a line are.
 fn command_phase(line: &[u8; 128], n: usize) -> Phase
-    ensures* { λ r. ⌜ r ≡ command_phase (take n line.now) ⌝ }
+    ensures { result ≡ command_phase (take n line.now) }
 {
     if n < 2 {
         return Phase::ObdCommand;
@@ -207,7 +207,7 @@ fn command_phase(line: &[u8; 128], n: usize) -> Phase
 
 // Whether a byte is refused.
 fn byte_verdict(turn: Turn, b: u8, room: usize) -> Verdict
-    ensures* { λ r. ⌜ ((s : Session) → s.phase ≡ turn.phase → length s.line ≡ min turn.len 128 → byte_says room s b ≡ settled r (server_refusing s) (byte_taken s b)) ⌝ }
+    ensures { ((s : Session) → s.phase ≡ turn.phase → length s.line ≡ min turn.len 128 → byte_says room s b ≡ settled result (server_refusing s) (byte_taken s b)) }
 {
     let phase = turn.phase;
     if !is_reading(phase) {
@@ -227,7 +227,7 @@ fn byte_verdict(turn: Turn, b: u8, room: usize) -> Verdict
 
 // A byte is sent back where echo is on.
 fn put_echo(out: &mut [u8], at: usize, echo: bool, b: u8) -> usize
-    ensures* { λ r. ⌜ Put out.old at (cond echo (b ∷ []) []) r out.new ⌝ }
+    ensures { Put out.old at (cond echo (b ∷ []) []) result out.new }
 {
     if echo {
         return wire::put_byte(out, at, b);
@@ -237,7 +237,7 @@ fn put_echo(out: &mut [u8], at: usize, echo: bool, b: u8) -> usize
 
 // How many bytes may join the line as a run, if none of them is special.
 fn run_room(turn: Turn, echo: bool, left: usize, free: usize) -> usize
-    ensures* { λ r. ⌜ RunFits turn echo left free r ⌝ }
+    ensures { RunFits turn echo left free result }
 {
     let phase = turn.phase;
     if is_reading(phase) {
@@ -265,7 +265,7 @@ fn join_run(
     most: usize,
 ) -> Run
     requires { (min len 128 + most ≤ 128) × (length line.old ≡ 128) × (i + most ≤ length input.now) }
-    ensures* { λ r. ⌜ LineRunTo line.old len input.now i out.old at echo most r line.new out.new ⌝ }
+    ensures { LineRunTo line.old len input.now i out.old at echo most result line.new out.new }
 {
     let mut n: usize = 0;
     let mut end = at;
@@ -296,7 +296,7 @@ fn read_run(
     at: usize,
 ) -> Run
     requires { (length line.old ≡ 128) × (i ≤ length input.now) }
-    ensures* { λ r. ⌜ Joins turn echo line.old input.now i out.old at r line.new out.new ⌝ }
+    ensures { Joins turn echo line.old input.now i out.old at result line.new out.new }
 {
     let most = run_room(turn, echo, room_at(input.len(), i), room_at(out.len(), at));
     join_run(line, turn.len, input, i, out, at, echo, most)
@@ -304,7 +304,7 @@ fn read_run(
 
 // The last command has 128 bytes at most, whatever size says.
 fn read_flags(echo: bool, linefeeds: bool, size: usize) -> Flags
-    ensures* { λ r. ⌜ r ≡ record { echo = echo; linefeeds = linefeeds; last = min size 128 } ⌝ }
+    ensures { result ≡ record { echo = echo; linefeeds = linefeeds; last = min size 128 } }
 {
     Flags {
         echo,
@@ -315,7 +315,7 @@ fn read_flags(echo: bool, linefeeds: bool, size: usize) -> Flags
 
 // The end of an empty line: the last command is handed out, or `?` is written when there is none.
 fn end_empty(flags: Flags, out: &mut [u8], at: usize) -> Did
-    ensures* { λ r. ⌜ ((s : Session) (line : List ℕ) → Shows s.state flags → ByteDoes (empty_line s [] s.state.last) s.state line out.old at r out.new) ⌝ }
+    ensures { ((s : Session) (line : List ℕ) → Shows s.state flags → ByteDoes (empty_line s [] s.state.last) s.state line out.old at result out.new) }
 {
     if flags.last == 0 {
         let end = reply::put_text_reply(out, at, b"?", flags.linefeeds);
@@ -344,9 +344,9 @@ fn end_empty(flags: Flags, out: &mut [u8], at: usize) -> Did
 // The end of a line: its command is handed out.
 fn end_line(line: &mut [u8; 128], len: usize, flags: Flags, out: &mut [u8], at: usize) -> Did
     requires { length line.old ≡ 128 }
-    ensures* fact { λ r. ⌜ ((s : Session) → s.line ≡ take len line.old → Shows s.state flags →
-        ByteDoes (line_end s [] (canonical s.line)) s.state line.new out.old at r out.new) ⌝ }
-    ensures* line_after { λ r. ⌜ length line.new ≡ 128 ⌝ }
+    ensures fact { ((s : Session) → s.line ≡ take len line.old → Shows s.state flags →
+        ByteDoes (line_end s [] (canonical s.line)) s.state line.new out.old at result out.new) }
+    ensures line_after { length line.new ≡ 128 }
 {
     let n = make_canonical(line, wire::at_most(len, 128));
     if n == 0 {
@@ -373,10 +373,10 @@ fn take_byte(
     at: usize,
 ) -> Did
     requires { length line.old ≡ 128 }
-    ensures* fact { λ r. ⌜ ((state : Settings) → Shows state flags →
-        ByteDoes (byte_says (length out.old - at) (turn_session turn state line.old) b) state line.new out.old at r out.new) ⌝ }
-    ensures* line_after { λ r. ⌜ length line.new ≡ 128 ⌝ }
-    ensures* fact_2 { λ r. ⌜ ((q : Refusal) → r.answer ≡ ServerAnswer.Refused q → Leaves turn line.old r line.new) ⌝ }
+    ensures fact { ((state : Settings) → Shows state flags →
+        ByteDoes (byte_says (length out.old - at) (turn_session turn state line.old) b) state line.new out.old at result out.new) }
+    ensures line_after { length line.new ≡ 128 }
+    ensures fact_2 { ((q : Refusal) → result.answer ≡ ServerAnswer.Refused q → Leaves turn line.old result line.new) }
 {
     let verdict = byte_verdict(turn, b, room_at(out.len(), at));
     if let Verdict::Refused(refusal) = verdict {
@@ -420,11 +420,11 @@ fn take_byte(
 // a call for each.
 fn take_bytes(line: &mut [u8; 128], turn: Turn, flags: Flags, input: &[u8], out: &mut [u8]) -> Did
     requires { length line.old ≡ 128 }
-    ensures* fact { λ r. ⌜ ((state : Settings) → Shows state flags →
-        Serves (server_lent (bytes_say (length out.old) (turn_session turn state line.old) input.now) out.old) state line.new r
-        out.new) ⌝ }
-    ensures* line_after { λ r. ⌜ length line.new ≡ 128 ⌝ }
-    ensures* fact_2 { λ r. ⌜ ((q : Refusal) → r.answer ≡ ServerAnswer.Refused q → r.taken ≡ 0 → Leaves turn line.old r line.new) ⌝ }
+    ensures fact { ((state : Settings) → Shows state flags →
+        Serves (server_lent (bytes_say (length out.old) (turn_session turn state line.old) input.now) out.old) state line.new result
+        out.new) }
+    ensures line_after { length line.new ≡ 128 }
+    ensures fact_2 { ((q : Refusal) → result.answer ≡ ServerAnswer.Refused q → result.taken ≡ 0 → Leaves turn line.old result line.new) }
 {
     let mut turn = turn;
     let mut i: usize = 0;
@@ -458,7 +458,7 @@ fn take_bytes(line: &mut [u8; 128], turn: Turn, flags: Flags, input: &[u8], out:
 impl ServerSession {
     // A session with fresh settings, that waits for a line.
     pub fn new() -> ServerSession
-        ensures* { λ r. ⌜ session r ≡ fresh_session ⌝ }
+        ensures { session result ≡ fresh_session }
     {
         ServerSession {
             state: ClientState::default(),
@@ -469,7 +469,7 @@ impl ServerSession {
 
     // How many bytes of line are the line as far as it is read, or the command handed out, whatever len holds.
     pub fn command_size(self) -> usize
-        ensures* { λ r. ⌜ r ≡ length (session self).line ⌝ }
+        ensures { result ≡ length (session self).line }
     {
         let n = self.turn.len;
         if n < 128 {
@@ -480,8 +480,8 @@ impl ServerSession {
 
     // One byte from the reader.
     pub fn byte(mut self, b: u8, out: &mut [u8]) -> ServerStep
-        ensures* out_after { λ r. ⌜ server_step r out.new ≡ server_lent (byte_says (length out.old) (session self) b) out.old ⌝ }
-        ensures* fact { λ r. ⌜ ((q : Refusal) → r.answer ≡ ServerAnswer.Refused q → r.session ≡ self) ⌝ }
+        ensures out_after { server_step result out.new ≡ server_lent (byte_says (length out.old) (session self) b) out.old }
+        ensures fact { ((q : Refusal) → result.answer ≡ ServerAnswer.Refused q → result.session ≡ self) }
     {
         let turn = self.turn;
         let flags = read_flags(
@@ -507,8 +507,8 @@ impl ServerSession {
 
     // Bytes from the reader, one after the other: it stops after the one that hands a command out, or before the one that gets a number.
     pub fn bytes(mut self, input: &[u8], out: &mut [u8]) -> ServerStep
-        ensures* out_after { λ r. ⌜ server_step r out.new ≡ server_lent (bytes_say (length out.old) (session self) input.now) out.old ⌝ }
-        ensures* fact { λ r. ⌜ ((q : Refusal) → r.answer ≡ ServerAnswer.Refused q → r.taken ≡ 0 → r.session ≡ self) ⌝ }
+        ensures out_after { server_step result out.new ≡ server_lent (bytes_say (length out.old) (session self) input.now) out.old }
+        ensures fact { ((q : Refusal) → result.answer ≡ ServerAnswer.Refused q → result.taken ≡ 0 → result.session ≡ self) }
     {
         let turn = self.turn;
         let flags = read_flags(

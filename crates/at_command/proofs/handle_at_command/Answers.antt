@@ -2,6 +2,9 @@
 -- `at_kind` is called on the command. Then the borrow is opened, the settings behind it are read whole, `with_kind` is called on them and the kind, what it
 -- returns is stored whole, and the borrow is closed at that record. The kind is the result.
 -- Of the two callees the proof uses their contracts alone. Struct and enum are plain data, so what they own is made anew of their relations.
+-- the machine values of a record
+-- the contracts that the proof cites
+-- the two callees' facts together
 use mathlib.Core.Path.{◌≡◌, refl, ap, ◌∙◌}
 use Prim.Native.Nat.{ℕ}
 use mathlib.Core.List.{List, [], ◌∷◌}
@@ -33,7 +36,6 @@ use denote.Steps.{opens, closes, owned, peeks, heard, nothing}
 use denote.Struct.Steps.{spelt}
 use denote.Enum.Laws as EL
 use denote.Struct.Laws as LL
-use denote.Triple.Statement.{Contract, Triple}
 use denote.Triple.Call.{calls_at}
 use denote.Triple.Entry.{on_entry}
 use denote.Triple.Spec.{Meets, triple_of}
@@ -61,26 +63,30 @@ use Rattle.at_command.specs.contracts.handle_at_command.Key.{name as #at-command
 use Rattle.at_command.specs.contracts.handle_at_command as handle
 use Rattle.at_command.proofs.handle_at_command.Statement as stated
 use Rattle.at_command.proofs.handle_at_command.Code as code
+use Rattle.at_command.proofs.handle_at_command.Goals as goal
 
 abbrev stayed : Stays (handle.ended).signature.params (handle.ended).kept
+
 stayed = (stay_ref (0 ∷ []) tt (plain (λ _. T.the_row)), (stay_none_slice (1 ∷ []) tt (plain (λ _. u8)) yes, tt))
 
--- the machine values of a record
 abbrev vals : ClientState → List Val
+
 vals = LL.vals T.the_type T'.the_laws
 
 abbrev mach : ClientState → Val
+
 mach h = LL.tuple_val T.the_type T'.the_laws ((T.the_type).to h)
 
--- the contracts that the proof cites
 abbrev AtKindOf : {M : Type 1} {𝓤 : Ura M} (𝓛 : Logic 𝓤) (at_mem : Memory → SProp 𝓤) (run : Routine → Fun 𝓤) → Contract 𝓤
+
 AtKindOf 𝓛 at_mem run = triple_of 𝓛 at-kind.signature (at-kind.spec 𝓛 at_mem run)
 
 abbrev WithKind : {M : Type 1} {𝓤 : Ura M} (𝓛 : Logic 𝓤) (at_mem : Memory → SProp 𝓤) (run : Routine → Fun 𝓤) → Contract 𝓤
+
 WithKind 𝓛 at_mem run = triple_of 𝓛 with-kind.signature (with-kind.spec 𝓛 at_mem run)
 
--- the two callees' facts together
 together : (h r : ClientState) (k : AtKind) (s : List ℕ) → k ≡ at_kind s → settings r ≡ kind_settings k (settings h) → settings r ≡ kind_settings (at_kind s) (settings h)
+
 together h r k s e₁ e₂ = e₂ ∙ ap (λ (j : AtKind). kind_settings j (settings h)) e₁
 
 module _ {M : Type 1} {𝓤 : Ura M} (𝓛 : Logic 𝓤) (at_mem : Memory → SProp 𝓤) (run : Routine → Fun 𝓤) (κ κ' : Lft) (q q' : Share) (b o : ℕ) (γ : GName)
@@ -195,12 +201,11 @@ module _ {M : Type 1} {𝓤 : Ura M} (𝓛 : Logic 𝓤) (at_mem : Memory → SP
 handle-meets : {M : Type 1} {𝓤 : Ura M} (𝓛 : Logic 𝓤) (at_mem : Memory → SProp 𝓤) (run : Routine → Fun 𝓤) (𝓣 : Tables 𝓤 𝓛.H)
     → Triple 𝓤 (𝓣.C #at-command·at-kind) (AtKindOf 𝓛 at_mem run) → Triple 𝓤 (𝓣.C #at-command·with-kind) (WithKind 𝓛 at_mem run)
     → Meets 𝓛 handle.signature (WpFn 𝓤 𝓛.H 𝓣.C 𝓣.Λ code.function) (handle.spec 𝓛 at_mem run)
+
 handle-meets {𝓤 = 𝓤} 𝓛 at_mem run 𝓣 known-at-kind known-with-kind = walk_Meets 𝓛 handle.ended stayed (all_go 𝓛 at_mem run) (handle.clauses 𝓛 at_mem run)
     (WpFn 𝓤 𝓛.H 𝓣.C 𝓣.Λ code.function) (WpFn-mono 𝓤 𝓛.H 𝓛.laws 𝓣 code.function)
     (handle-walks 𝓛 at_mem run 𝓣.C 𝓣.Λ (fm_of 𝓤 𝓛.H 𝓛.laws 𝓣) known-at-kind known-with-kind)
 
-pub handle-at-command-spec : {M : Type 1} → stated.statement M
-unfolding code.routine tables_of
 handle-at-command-spec 𝓤 𝓛 𝓜 𝓡 =
     entered 𝓤 𝓛.H (triple_of 𝓛 handle.signature (handle.spec 𝓛 𝓜.mem 𝓡.run))
     (tables 𝓤 𝓛.H 𝓜 𝓡 code.env).C (tables 𝓤 𝓛.H 𝓜 𝓡 code.env).Λ #at-command·handle-at-command code.function (code.unfolded 𝓤 𝓛.H 𝓜 𝓡)

@@ -1,0 +1,14 @@
+-- `query::put_count` meets its contract: nothing, or a space and the number.
+use borrow.Author.Rules.{rules}
+use Rattle.wire.proofs.PutLaws.{put_then, put_none}
+use Rattle.query.proofs.put_count.Goals as goal
+
+pub returns-in-Any : goal.returns-in-Any
+returns-in-Any c = rw c.in-Any.is (put_none _ _)
+
+pub returns-in-Given : goal.returns-in-Given
+returns-in-Given c =
+    let at-put-decimal = c in
+    let at-put-byte = at-put-decimal in
+    let at_count = at-put-byte in
+    rw at_count.in-Given.is (put_then at-put-byte.put_byte-at.ensures at-put-decimal.put_decimal.ensures)
