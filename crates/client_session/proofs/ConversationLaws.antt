@@ -104,10 +104,10 @@ after c store es = conversation c store (edited es)
 
 own_same : (c : Client) (store : List ℕ) (es : List Edit) → OnlyNulls c store es → own_outcomes es (after c store es) ≡ conversation c store (original es)
 own_same c store [] h = refl
-own_same c store (unedited s ∷ es) h = ap (λ os. outcome c store s ∷ os) (own_same _ _ es h)
+own_same c store (unedited s ∷ es) h = ap (λ os. outcome c store s ∷ os) (own_same (outcome c store s).next (outcome c store s).store es h)
 own_same c store (replaced_piece p q out ∷ es) h =
     let e = sym (slipped-same c p q store out h.0) in
-    (λ i. e i ∷ own_outcomes es (after (e i).next (e i).store es)) ∙ ap (λ os. outcome c store (piece p out) ∷ os) (own_same _ _ es h.1)
+    (λ i. e i ∷ own_outcomes es (after (e i).next (e i).store es)) ∙ ap (λ os. outcome c store (piece p out) ∷ os) (own_same (outcome c store (piece p out)).next (outcome c store (piece p out)).store es h.1)
 own_same c store (added_piece n out ∷ es) h =
     let e = (nulls_untouched c n store out h.0).comes in
     (λ i. own_outcomes es (after (e i).next (e i).store es)) ∙ own_same c store es h.1
@@ -117,8 +117,8 @@ Added o es = AddedUntouched o.next o.store es (after o.next o.store es)
 
 added_untouched : (c : Client) (store : List ℕ) (es : List Edit) → OnlyNulls c store es → AddedUntouched c store es (after c store es)
 added_untouched c store [] h = tt
-added_untouched c store (unedited s ∷ es) h = added_untouched _ _ es h
-added_untouched c store (replaced_piece p q out ∷ es) h = subst (λ o. Added o es) (slipped-same c p q store out h.0) (added_untouched _ _ es h.1)
+added_untouched c store (unedited s ∷ es) h = added_untouched (outcome c store s).next (outcome c store s).store es h
+added_untouched c store (replaced_piece p q out ∷ es) h = subst (λ o. Added o es) (slipped-same c p q store out h.0) (added_untouched (outcome c store (piece p out)).next (outcome c store (piece p out)).store es h.1)
 added_untouched c store (added_piece n out ∷ es) h =
     let u = nulls_untouched c n store out h.0 in
     (u, subst (λ o. Added o es) (sym u.comes) (added_untouched c store es h.1))

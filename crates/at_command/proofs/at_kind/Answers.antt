@@ -34,13 +34,13 @@ module _ (s : lts.After-shared-slice-known2 (
 pub returns-then-not-begins : goal.returns-then-not-begins
 returns-then-not-begins c =
     let start = c in
-    sym (kind_other start.args.command.now (sym c.begins.ensures ∙ not-true _ c.if-not-begins.true))
+    sym (kind_other start.args.command.now (sym c.begins.ensures ∙ not-true _ c.if-not-begins.true-raw))
 
 pub returns-then-command-lt3 : goal.returns-then-command-lt3
 returns-then-command-lt3 c =
     let at-begins = c in
     let start = at-begins in
-    sym (kind_bare start.args.command.now (sym at-begins.begins.ensures ∙ not-false _ c.if-not-begins.false) c.if-command-lt3.true)
+    sym (kind_bare start.args.command.now (sym at-begins.begins.ensures ∙ not-false _ c.if-not-begins.false-raw) c.if-command-lt3.true)
 
 pub returns-in-90 : goal.returns-in-90
 unfolding at_kind
