@@ -1,0 +1,16 @@
+-- `reply::put_joined` meets its contract. The invariant: the bytes that are left, written from here, give the final buffer.
+use mathlib.Core.Path.{◌≡◌, refl}
+use mathlib.Core.Bool.{false}
+use Prim.Native.Nat.{◌+◌, ◌-◌, ◌*◌, ◌≤◌}
+use native.Mathlib.Omega.{arith}
+use lib.ListN.{length, drop, length-set, length-drop}
+use borrow.Author.Rules.{rules}
+use Rattle.reply.proofs.SizeLaws.{further-length}
+use Rattle.reply.proofs.TextLaws.{Further, further_start, further_end, joined_turn}
+use Rattle.reply.proofs.put_joined.Given as goal
+
+abbrev pub invariant-loop-i : goal.invariant-loop-i
+invariant-loop-i l = (1 ≤ l.i) × (length l.out ≡ length l.initial.out) × (l.to + 2 * (length l.payload - l.i) ≤ length l.initial.out) × Further false l.payload l.initial.out l.at l.i l.out l.to
+
+abbrev pub decreases-loop-i : goal.decreases-loop-i
+decreases-loop-i l = length l.payload - l.i
