@@ -11,17 +11,13 @@ use Rattle.reply_lines.proofs.ecu_of.Goals as goal
 
 pub overflow_add-result : goal.overflow_add-result
 overflow_add-result c =
-    let at-hex-id = c in
-    let start = at-hex-id in
     record {
-      fits = let k = below_at 4096 (number_small (start.args.a ∷ start.args.b ∷ start.args.c ∷ []))
-          (sym at-hex-id.hex_id.ensures ∙ ap hex_of c.in-Number.is) in omega arith;
+      fits = let k = below_at 4096 (number_small (c.args.a ∷ c.args.b ∷ c.args.c ∷ []))
+          (sym c.hex_id.ensures ∙ ap hex_of c.in-Number.is) in omega arith;
     }
 
 pub returns-in-Number : goal.returns-in-Number
-returns-in-Number c =
-    let at-hex-id = c in
-    add-one _ ∙ ap (λ o. suc (get_or o 0)) (sym (ap hex_of c.in-Number.is) ∙ at-hex-id.hex_id.ensures)
+returns-in-Number c = add-one _ ∙ ap (λ o. suc (get_or o 0)) (sym (ap hex_of c.in-Number.is) ∙ c.hex_id.ensures)
 
 pub returns-in-Bad : goal.returns-in-Bad
 returns-in-Bad c = ap (λ o. suc (get_or o 0)) (sym (ap hex_of c.in-Bad.is) ∙ c.hex_id.ensures)

@@ -9,21 +9,19 @@ loop-i-init c = (omega arith, omega (arith, c.requires), refl)
 
 pub returns-then-not-is_skipped : goal.returns-then-not-is_skipped
 returns-then-not-is_skipped c =
-    let at-loop = c in
     record {
-      after = at-loop.loop-i.invariant.0;
-      inside = at-loop.loop-i.invariant.1;
-      reads = at-loop.loop-i.invariant.2;
+      after = c.loop-i.invariant.0;
+      inside = c.loop-i.invariant.1;
+      reads = c.loop-i.invariant.2;
       char = λ _. sym c.is_skipped.ensures ∙ not-true _ c.if-not-is_skipped.true-raw;
     }
 
 pub loop-i-preserved : goal.loop-i-preserved
 loop-i-preserved c =
-    let at-loop-test = c in
-    let at-loop = at-loop-test in (
+    (
       omega arith,
       omega arith,
-      sym (skip_here _ _ at-loop-test.loop-i-test.true (sym c.is_skipped.ensures ∙ not-false _ c.if-not-is_skipped.false-raw)) ∙ at-loop.loop-i.invariant.2,
+      sym (skip_here _ _ c.loop-i-test.true (sym c.is_skipped.ensures ∙ not-false _ c.if-not-is_skipped.false-raw)) ∙ c.loop-i.invariant.2,
     )
 
 pub returns : goal.returns

@@ -13,8 +13,7 @@ pub slice_bounds-trim_start-end : goal.slice_bounds-trim_start-end
 slice_bounds-trim_start-end c = omega (arith, cr_inside _ _ _ c.loop-at-test.true c.find_cr-cr.ensures)
 
 pub overflow_sub-start : goal.overflow_sub-start
-overflow_sub-start c =
-    omega (arith, text_fits _ _ _ c.loop-at-test.true c.find_cr-cr.ensures _ c.trim_start-text.ensures)
+overflow_sub-start c = omega (arith, text_fits _ _ _ c.loop-at-test.true c.find_cr-cr.ensures _ c.trim_start-text.ensures)
 
 pub overflow_add-result : goal.overflow_add-result
 overflow_add-result c =
@@ -33,8 +32,7 @@ returns-then-stays c =
     c.trim_end-trimmed.ensures (sym c.stays.ensures ∙ c.if-stays.true)) ∙ c.loop-at.invariant
 
 pub loop-at-smaller : goal.loop-at-smaller
-loop-at-smaller c =
-    omega (arith, next-after _ _ _ c.loop-at-test.true c.find_cr-cr.ensures _ c.past_cr-next.ensures)
+loop-at-smaller c = omega (arith, next-after _ _ _ c.loop-at-test.true c.find_cr-cr.ensures _ c.past_cr-next.ensures)
 
 pub loop-at-preserved : goal.loop-at-preserved
 loop-at-preserved c =

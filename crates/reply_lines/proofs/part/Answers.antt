@@ -5,9 +5,7 @@ use Rattle.reply_lines.proofs.PartLaws.{part-past, part_none, part_rest}
 use Rattle.reply_lines.proofs.part.Goals as goal
 
 pub returns-then-reply-start : goal.returns-then-reply-start
-returns-then-reply-start c =
-    let start = c in
-    sym (part-past start.args.reply.now start.args.start (start.args.end - start.args.start) c.if-reply-start.true)
+returns-then-reply-start c = sym (part-past c.args.reply.now c.args.start (c.args.end - c.args.start) c.if-reply-start.true)
 
 pub returns-then-end-start : goal.returns-then-end-start
 returns-then-end-start c = sym (part_none _ _ _ c.if-end-start.true)

@@ -11,13 +11,7 @@ pub returns-in_default : goal.returns-in_default
 returns-in_default c = simp (← c.hex_pair.ensures, c.in_default.is) (put_none _ _)
 
 pub overflow_cast-byte : goal.overflow_cast-byte
-overflow_cast-byte c =
-    let read = c in
-    let a = read in
-    omega (arith, below_at 256 (number_small (a.args.a ∷ a.args.b ∷ [])) (sym read.hex_pair.ensures ∙ ap hex_of read.in-Number.is))
+overflow_cast-byte c = omega (arith, below_at 256 (number_small (c.args.a ∷ c.args.b ∷ [])) (sym c.hex_pair.ensures ∙ ap hex_of c.in-Number.is))
 
 pub returns : goal.returns
-returns c =
-    let put = c in
-    let read = put in
-    simp (← read.hex_pair.ensures, read.in-Number.is) put.put_byte.ensures
+returns c = simp (← c.hex_pair.ensures, c.in-Number.is) c.put_byte.ensures

@@ -12,41 +12,26 @@ shape_of-out-then-text-a c = c.loop-i.invariant.1
 
 pub returns-then-text-a : goal.returns-then-text-a
 returns-then-text-a c =
-    let at-loop = c in
-    let q = pairs_none _ _ at-loop.loop-i.invariant.2 _ c.next_char-a.ensures c.if-text-a.true in record { next = sym q.0; bytes = sym q.1 }
+    let q = pairs_none _ _ c.loop-i.invariant.2 _ c.next_char-a.ensures c.if-text-a.true in record { next = sym q.0; bytes = sym q.1 }
 
 pub shape_of-out-then-text-b : goal.shape_of-out-then-text-b
-shape_of-out-then-text-b c =
-    let at-loop = c in
-    at-loop.loop-i.invariant.1
+shape_of-out-then-text-b c = c.loop-i.invariant.1
 
 pub returns-then-text-b : goal.returns-then-text-b
 returns-then-text-b c =
-    let at-if1 = c in
-    let at-next-char = at-if1 in
-    let at-loop = at-next-char in
-    let q = pairs_odd _ _ at-loop.loop-i.invariant.2 _ at-next-char.next_char-a.ensures at-if1.if-text-a.false _ c.next_char-b.ensures
+    let q = pairs_odd _ _ c.loop-i.invariant.2 _ c.next_char-a.ensures c.if-text-a.false _ c.next_char-b.ensures
     c.if-text-b.true in record { next = sym q.0; bytes = sym q.1 }
 
 pub loop-i-smaller : goal.loop-i-smaller
-loop-i-smaller c =
-    let at-if2 = c in
-    let at-next-char2 = at-if2 in
-    let at-next-char = at-next-char2 in
-    omega (arith, at-next-char.next_char-a.ensures.after, at-next-char2.next_char-b.ensures.after, at-if2.if-text-b.false)
+loop-i-smaller c = omega (arith, c.next_char-a.ensures.after, c.next_char-b.ensures.after, c.if-text-b.false)
 
 pub loop-i-preserved : goal.loop-i-preserved
 loop-i-preserved c =
-    let at-put-pair = c in
-    let at-if2 = at-put-pair in
-    let at-next-char2 = at-if2 in
-    let at-if1 = at-next-char2 in
-    let at-next-char = at-if1 in
-    let at-loop = at-next-char in (
-      omega (arith, at-if2.if-text-b.false),
-      put_length at-put-pair.put_pair-len.ensures ∙ at-loop.loop-i.invariant.1,
-      pairs_step _ _ at-loop.loop-i.invariant.2 _ at-next-char.next_char-a.ensures
-          at-if1.if-text-a.false _ at-next-char2.next_char-b.ensures at-if2.if-text-b.false at-put-pair.put_pair-len.ensures,
+    (
+      omega (arith, c.if-text-b.false),
+      put_length c.put_pair-len.ensures ∙ c.loop-i.invariant.1,
+      pairs_step _ _ c.loop-i.invariant.2 _ c.next_char-a.ensures
+          c.if-text-a.false _ c.next_char-b.ensures c.if-text-b.false c.put_pair-len.ensures,
     )
 
 pub shape_of-out : goal.shape_of-out

@@ -12,24 +12,21 @@ loop-len-init c = (omega arith, search rules, refl)
 
 pub returns-then-text-i : goal.returns-then-text-i
 returns-then-text-i c =
-    let at-loop = c in
     record {
-      whole = at-loop.loop-len.invariant.2 ∙ ap (λ l. take at-loop.loop-len.len at-loop.loop-len.chars ++ l)
+      whole = c.loop-len.invariant.2 ∙ ap (λ l. take c.loop-len.len c.loop-len.chars ++ l)
           (sym c.next_char-i.ensures.reads);
-      five = at-loop.loop-len.invariant.1;
+      five = c.loop-len.invariant.1;
       short = λ _. characters_end _ _ c.if-text-i.true;
       inside = c.next_char-i.ensures.inside;
     }
 
 pub loop-len-preserved : goal.loop-len-preserved
 loop-len-preserved c =
-    let at-next-char = c in
-    let at-loop-test = at-next-char in
-    let at-loop = at-loop-test in (
+    (
       omega (arith, c.if-text-i.false),
-      length-set at-loop.loop-len.chars _ _ ∙ at-loop.loop-len.invariant.1,
-      head_step _ at-loop.loop-len.chars at-loop.loop-len.len _ _
-          (omega (arith, at-loop.loop-len.invariant.1, at-loop-test.loop-len-test.true)) at-loop.loop-len.invariant.2 at-next-char.next_char-i.ensures c.if-text-i.false,
+      length-set c.loop-len.chars _ _ ∙ c.loop-len.invariant.1,
+      head_step _ c.loop-len.chars c.loop-len.len _ _
+          (omega (arith, c.loop-len.invariant.1, c.loop-len-test.true)) c.loop-len.invariant.2 c.next_char-i.ensures c.if-text-i.false,
     )
 
 pub returns : goal.returns

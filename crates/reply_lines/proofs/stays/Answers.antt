@@ -8,6 +8,4 @@ pub returns-then-text-eq0 : goal.returns-then-text-eq0
 returns-then-text-eq0 c = sym (stays_none c.args.text.now c.if-text-eq0.true)
 
 pub returns : goal.returns
-returns c =
-    let start = c in
-    ap not c.has.ensures ∙ sym (stays_some start.args.text.now c.if-text-eq0.false)
+returns c = ap not c.has.ensures ∙ sym (stays_some c.args.text.now c.if-text-eq0.false)

@@ -5,7 +5,4 @@ use Rattle.reply_lines.specs.declared.TextStep.{TextStep}
 use Rattle.reply_lines.proofs.step_text.Goals as goal
 
 pub returns-in-Text : goal.returns-in-Text
-returns-in-Text c =
-    let at-step = c in
-    let start = at-step in
-    c.part.ensures ∙ ap (λ (s : TextStep). step_text start.args.reply.now (text_step s)) (sym at-step.in-Text.is)
+returns-in-Text c = c.part.ensures ∙ ap (λ (s : TextStep). step_text c.args.reply.now (text_step s)) (sym c.in-Text.is)

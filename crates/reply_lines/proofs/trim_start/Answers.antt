@@ -10,18 +10,12 @@ loop-i-init c = (omega arith, refl)
 
 pub returns-then-not-is_trimmed : goal.returns-then-not-is_trimmed
 returns-then-not-is_trimmed c =
-    let at-is-trimmed = c in
-    let at-loop-test = at-is-trimmed in
-    let at-loop = at-loop-test in
-    let start = at-loop in
-    part_all start.args.s.now at-loop.loop-i.i ∙ sym (start_stop _ _ at-loop-test.loop-i-test.true (sym at-is-trimmed.is_trimmed.ensures ∙ not-true _ c.if-not-is_trimmed.true-raw))
-    ∙ at-loop.loop-i.invariant.1
+    part_all c.args.s.now c.loop-i.i ∙ sym (start_stop _ _ c.loop-i-test.true (sym c.is_trimmed.ensures ∙ not-true _ c.if-not-is_trimmed.true-raw))
+    ∙ c.loop-i.invariant.1
 
 pub loop-i-preserved : goal.loop-i-preserved
 loop-i-preserved c =
-    let at-loop-test = c in
-    let at-loop = at-loop-test in
-    (search rules, sym (start_next _ _ at-loop-test.loop-i-test.true (sym c.is_trimmed.ensures ∙ not-false _ c.if-not-is_trimmed.false-raw)) ∙ at-loop.loop-i.invariant.1)
+    (search rules, sym (start_next _ _ c.loop-i-test.true (sym c.is_trimmed.ensures ∙ not-false _ c.if-not-is_trimmed.false-raw)) ∙ c.loop-i.invariant.1)
 
 pub returns : goal.returns
 returns c = sym (start_end _ _ c.loop-i-test.false) ∙ c.loop-i.invariant.1
