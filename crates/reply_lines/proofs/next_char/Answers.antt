@@ -17,12 +17,11 @@ returns-then-not-is_skipped c =
     }
 
 pub loop-i-preserved : goal.loop-i-preserved
-loop-i-preserved c =
-    (
-      omega arith,
-      omega arith,
-      sym (skip_here _ _ c.loop-i-test.true (sym c.is_skipped.ensures ∙ not-false _ c.if-not-is_skipped.false-raw)) ∙ c.loop-i.invariant.2,
-    )
+loop-i-preserved c = (
+  omega arith,
+  omega arith,
+  sym (skip_here _ _ c.loop-i-test.true (sym c.is_skipped.ensures ∙ not-false _ c.if-not-is_skipped.false-raw)) ∙ c.loop-i.invariant.2,
+)
 
 pub returns : goal.returns
 returns c = record { after = c.loop-i.invariant.0; inside = c.loop-i.invariant.1; reads = c.loop-i.invariant.2; char = λ h. absurd (omega arith) }

@@ -26,13 +26,12 @@ pub loop-i-smaller : goal.loop-i-smaller
 loop-i-smaller c = omega (arith, c.next_char-a.ensures.after, c.next_char-b.ensures.after, c.if-text-b.false)
 
 pub loop-i-preserved : goal.loop-i-preserved
-loop-i-preserved c =
-    (
-      omega (arith, c.if-text-b.false),
-      put_length c.put_pair-len.ensures ∙ c.loop-i.invariant.1,
-      pairs_step _ _ c.loop-i.invariant.2 _ c.next_char-a.ensures
-          c.if-text-a.false _ c.next_char-b.ensures c.if-text-b.false c.put_pair-len.ensures,
-    )
+loop-i-preserved c = (
+  omega (arith, c.if-text-b.false),
+  put_length c.put_pair-len.ensures ∙ c.loop-i.invariant.1,
+  pairs_step _ _ c.loop-i.invariant.2 _ c.next_char-a.ensures
+      c.if-text-a.false _ c.next_char-b.ensures c.if-text-b.false c.put_pair-len.ensures,
+)
 
 pub shape_of-out : goal.shape_of-out
 shape_of-out c = c.loop-i.invariant.1

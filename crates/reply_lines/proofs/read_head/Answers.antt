@@ -21,13 +21,12 @@ returns-then-text-i c =
     }
 
 pub loop-len-preserved : goal.loop-len-preserved
-loop-len-preserved c =
-    (
-      omega (arith, c.if-text-i.false),
-      length-set c.loop-len.chars _ _ ∙ c.loop-len.invariant.1,
-      head_step _ c.loop-len.chars c.loop-len.len _ _
-          (omega (arith, c.loop-len.invariant.1, c.loop-len-test.true)) c.loop-len.invariant.2 c.next_char-i.ensures c.if-text-i.false,
-    )
+loop-len-preserved c = (
+  omega (arith, c.if-text-i.false),
+  length-set c.loop-len.chars _ _ ∙ c.loop-len.invariant.1,
+  head_step _ c.loop-len.chars c.loop-len.len _ _
+      (omega (arith, c.loop-len.invariant.1, c.loop-len-test.true)) c.loop-len.invariant.2 c.next_char-i.ensures c.if-text-i.false,
+)
 
 pub returns : goal.returns
 returns c = record { whole = c.loop-len.invariant.2; five = c.loop-len.invariant.1; short = λ h. absurd (omega (arith, c.loop-len-test.false)); inside = c.loop-len.invariant.0 }
