@@ -1,5 +1,7 @@
 // The server end of the wire protocol: it plays an ELM327 to a reader (server_session.rs of the Rust). Each call takes the session by value and gives the
 // next one back.
+#![tactic(auto)]
+
 mod replies;
 
 ghost use Rattle.std.specs.Prelude.{◌≡◌, cond, ◌&&◌, not, List, [], ◌∷◌, ℕ, ◌+◌, ◌-◌, ◌≤◌, min, eqb, leb, length, take};

@@ -11,4 +11,4 @@ pub returns-clause-says : goal.returns-clause-says
 returns-clause-says c =
     let made = rw c.at_most.ensures at c.make_canonical-n.ensures.0 in
     λ s q h. end_command s c.args.line.now c.args.len q c.requires _ _ made c.make_canonical-n.ensures.1 c.if-n-eq0.false _ _
-        c.phase_answer.result c.command_phase-phase.result c.phase_answer.ensures c.command_phase-phase.ensures
+    c.phase_answer.result c.command_phase-phase.result c.phase_answer.ensures c.command_phase-phase.ensures

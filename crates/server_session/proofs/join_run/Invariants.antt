@@ -1,12 +1,8 @@
 -- `server_session::join_run` meets its contract.
-use mathlib.Core.Path.{◌≡◌, refl, sym, ◌∙◌}
+use mathlib.Core.Path.{◌≡◌}
 use Prim.Native.Nat.{◌-◌}
-use native.Mathlib.Omega.{arith}
 use lib.ListN.{length}
-use borrow.Author.Rules.{rules}
-use Rattle.wire.proofs.PutLaws.{put_length}
 use Rattle.server_session.specs.Steps.{LineRun}
-use Rattle.server_session.proofs.RunLaws.{ran_none, ran_more}
 use Rattle.server_session.proofs.join_run.Given as goal
 
 abbrev pub invariant-loop-n : goal.invariant-loop-n

@@ -1,12 +1,9 @@
 -- `server_session::make_canonical` meets its contract.
 use mathlib.Core.List.{◌++◌}
-use mathlib.Core.Path.{◌≡◌, refl, sym, ◌∙◌}
+use mathlib.Core.Path.{◌≡◌}
 use Prim.Native.Nat.{◌≤◌, ◌-◌}
-use native.Mathlib.Omega.{arith}
 use lib.ListN.{length, take, drop}
-use borrow.Author.Rules.{rules}
 use Rattle.server_session.specs.Bytes.{canonical}
-use Rattle.server_session.proofs.LineLaws.{in_space, in_other, in_end}
 use Rattle.server_session.proofs.make_canonical.Given as goal
 
 abbrev pub invariant-loop-i : goal.invariant-loop-i

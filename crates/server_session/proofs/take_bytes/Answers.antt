@@ -1,9 +1,8 @@
 -- `server_session::take_bytes` meets its contract.
-use mathlib.Core.Path.{◌≡◌, sym, ◌∙◌}
+use mathlib.Core.Path.{sym, ◌∙◌}
 use Prim.Native.Nat.{◌<◌}
 use native.Mathlib.Omega.{arith}
 use lib.ListN.{length}
-use borrow.Author.Rules.{rules}
 use Rattle.server_session.proofs.RunLaws.{some_settings, some_shows, run_turn, byte_turn, byte_stop, bytes_end, serves_same, one_most}
 use Rattle.client_state.specs.Settings.{Settings}
 use Rattle.server_session.specs.declared.Turn.{Turn}
