@@ -1,5 +1,7 @@
 // What scripts of calls and their logs have in common on both sessions. A script is a list of calls: a kind, the length of the argument in two bytes, the lower first, and
 // the argument. compare/README.md has the kinds and the entries of the log.
+#![tactic(auto)]
+
 ghost use Rattle.std.specs.Prelude.{◌≡◌, ◌+◌, ◌-◌, min, length, take, get_or};
 ghost use Rattle.wire.specs.Put.{Put};
 ghost use Rattle.driver_log.specs.Log.{number_bytes, text_entry, call_entry, flag_byte};

@@ -1,60 +1,30 @@
 // Reads a bench script from standard input, and prints each query's part of its hire record as a line of hex bytes. A read or a write that fails is told on
-// standard error: a program of this language has no exit status.
-ghost use Rattle.io.specs.Counts.{IsPrefixLen};
-
-use libc::{STDERR_FILENO, STDIN_FILENO, STDOUT_FILENO};
+// standard error.
+use reading::read_input;
+use std::io::{Read, Write};
 use wire::Count;
 
-// How many bytes were read, and whether the last read failed.
-#[derive(Clone, Copy)]
-struct Input {
-    size: usize,
-    failed: bool,
-}
-
-// Reads until the buffer is full or the input ends.
-fn read_input(buffer: &mut [u8]) -> Input
-    ensures { IsPrefixLen result.size buffer.new }
-{
-    let mut size: usize = 0;
-    while size < buffer.len() {
-        let got = libc::read(STDIN_FILENO, &mut buffer[size..]);
-        let n = io::count(got, &buffer[size..]);
-        if n == 0 {
-            return Input {
-                size,
-                failed: got < 0,
-            };
-        }
-        size += n;
-    }
-    Input {
-        size,
-        failed: false,
-    }
-}
-
 // Prints what a script comes to.
-fn print_record(script: &[u8]) {
+fn print_record<W: Write, E: Write>(script: &[u8], to: &mut W, told: &mut E) {
     let mut record = [0u8; 65536];
     // Three characters for each byte of the record, and a line for the number: no text is longer.
     let mut out = [0u8; 196620];
     let Count::Is(end) = hire_text::hire_text(script, &mut record, &mut out) else {
         return;
     };
-    if !io::write_all(STDOUT_FILENO, &out[..end]) {
-        io::write_all(STDERR_FILENO, b"hire: cannot write the record\n");
+    if to.write_all(&out[..end]).is_err() {
+        let _ = told.write_all(b"hire: cannot write the record\n");
     }
 }
 
-fn main() {
+fn main(rt: HostRuntime) {
     // One byte more than a script may have.
     let mut script = [0u8; 16385];
-    let input = read_input(&mut script);
+    let input = read_input(&mut rt.stdin(), &mut script);
     if input.failed {
-        io::write_all(STDERR_FILENO, b"hire: cannot read the script\n");
+        let _ = rt.stderr().write_all(b"hire: cannot read the script\n");
         return;
     }
     let n = input.size;
-    print_record(&script[..n]);
+    print_record(&script[..n], &mut rt.stdout(), &mut rt.stderr());
 }

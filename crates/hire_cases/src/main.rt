@@ -2,20 +2,27 @@
 // record buffer (that many bytes; 0 for the 65,536 of `hire`), the script's length as two bytes, the higher first, and the script.
 ghost use Rattle.std.specs.Prelude.{◌≤◌};
 
-use libc::{STDIN_FILENO, STDOUT_FILENO};
+use reading::read_input;
+use std::io;
+use std::io::Write;
 use wire::Count;
 
 // Prints what `hire` prints for a script, with the first size bytes of a record buffer.
-fn print_case(script: &[u8], record: &mut [u8], size: usize) {
+fn print_case<W: Write>(
+    script: &[u8],
+    record: &mut [u8],
+    size: usize,
+    to: &mut W,
+) -> io::Result<()> {
     if record.len() < size {
-        return;
+        return Ok(());
     }
     let mut out = [0u8; 196620];
     let Count::Is(end) = hire_text::hire_text(script, &mut record[..size], &mut out) else {
-        return;
+        return Ok(());
     };
-    io::write_all(STDOUT_FILENO, &out[..end]);
-    io::write_all(STDOUT_FILENO, b"--\n");
+    to.write_all(&out[..end])?;
+    to.write_all(b"--\n")
 }
 
 fn room_of(byte: u8) -> usize {
@@ -31,16 +38,18 @@ fn length_of(high: u8, low: u8) -> usize
     high as usize * 256 + low as usize
 }
 
-fn main() {
+fn main(rt: HostRuntime) -> io::Result<()> {
+    let mut to = rt.stdout();
     let mut input = [0u8; 32768];
-    let n = io::read_full(STDIN_FILENO, &mut input);
+    let n = read_input(&mut rt.stdin(), &mut input).size;
     let mut record = [0u8; 65536];
     let mut at: usize = 0;
     while at + 3 <= n {
         let room = room_of(input[at]);
         let start = at + 3;
         let end = wire::at_most(start + length_of(input[at + 1], input[at + 2]), n);
-        print_case(&input[start..end], &mut record, room);
+        print_case(&input[start..end], &mut record, room, &mut to)?;
         at = end;
     }
+    Ok(())
 }

@@ -2,10 +2,12 @@
 // and 02 ask for, written by hand. compare/README.md says how the list is made. An entry is a byte for its kind, four numbers of two bytes, the lower first, and three
 // texts. The numbers are the size of the record buffer and the lengths of the texts: piece lengths, script, and stored log. Kind 0 is a heading, which is the third
 // text.
-ghost use Rattle.std.specs.Prelude.{◌≡◌, ◌+◌, ◌≤◌, ◌<◌, length};
+ghost use Rattle.std.specs.Prelude.{◌≡◌, ◌+◌, ◌≤◌, ◌<◌, IfOk, length};
 ghost use Rattle.replay.specs.Compare.{agreeing, judged, tallied, Within};
 
-use libc::{STDIN_FILENO, STDOUT_FILENO};
+use reading::read_input;
+use std::io;
+use std::io::Write;
 
 // Where an entry's texts start, each ending where the next starts, and where the next entry does.
 #[derive(Clone, Copy)]
@@ -199,47 +201,45 @@ fn replay(
     judge(&log[..size], &list[stored..next])
 }
 
-fn print(text: &[u8]) {
-    io::write_all(STDOUT_FILENO, text);
-}
-
-fn print_number(n: usize) {
-    io::print_decimal(STDOUT_FILENO, n as u64);
-}
-
 // What is said of the cases under a heading.
-fn print_tally(tally: Tally) {
-    print_number(tally.cases);
-    print(b" cases, ");
-    if tally.first == 0 {
-        print(b"no difference\n");
-        return;
+fn print_tally<W: Write>(to: &mut W, tally: Tally) -> io::Result<()> {
+    let cases = tally.cases;
+    let first = tally.first;
+    let place = tally.place;
+    if first == 0 {
+        return writeln!(to, "{cases} cases, no difference");
     }
-    print(b"case ");
-    print_number(tally.first);
-    print(b" differs at byte ");
-    print_number(tally.place);
-    print(b" of its log\n");
+    writeln!(
+        to,
+        "{cases} cases, case {first} differs at byte {place} of its log"
+    )
 }
 
 // A heading: what stood under the one before it, if there was one, is said first.
-fn head(list: &[u8], entry: Entry, before: Tally, at: usize) -> Tally
+fn head<W: Write>(
+    to: &mut W,
+    list: &[u8],
+    entry: Entry,
+    before: Tally,
+    at: usize,
+) -> io::Result<Tally>
     requires { Within at entry (length list.now) }
-    ensures { result.cases ≡ 0 }
+    ensures { IfOk result (λ t. t.cases ≡ 0) }
 {
     if at != 0 {
-        print_tally(before);
+        print_tally(to, before)?;
     }
     let start = entry.stored;
     let end = entry.next;
-    print(&list[start..end]);
-    print(b": ");
-    no_cases()
+    to.write_all(&list[start..end])?;
+    to.write_all(b": ")?;
+    Ok(no_cases())
 }
 
-fn main() {
+fn main(rt: HostRuntime) -> io::Result<()> {
+    let mut to = rt.stdout();
     let mut list = [0u8; 262144];
-    let n = io::read_full(STDIN_FILENO, &mut list);
+    let n = read_input(&mut rt.stdin(), &mut list).size;
     let mut store = [0u8; 4096];
     let mut out = [0u8; 65536];
     let mut log = [0u8; 65536];
@@ -248,12 +248,12 @@ fn main() {
     while 9 <= n - at {
         let entry = read_entry(&list[..n], at);
         if entry.kind == 0 {
-            under = head(&list[..n], entry, under, at);
+            under = head(&mut to, &list[..n], entry, under, at)?;
         } else {
             let verdict = replay(&list[..n], entry, at, &mut store, &mut out, &mut log);
             under = add_case(under, verdict);
         }
         at = entry.next;
     }
-    print_tally(under);
+    print_tally(&mut to, under)
 }

@@ -11,7 +11,12 @@ fn asks_for(command: &[u8], pid: u8) -> bool
     if 5 < command.len() {
         return false;
     }
-    let text = [b'0', b'1', hex_text::hex_char(pid / 16), hex_text::hex_char(pid)];
+    let text = [
+        b'0',
+        b'1',
+        hex_text::hex_char(pid / 16),
+        hex_text::hex_char(pid),
+    ];
     wire::begins(command, &text)
 }
 
