@@ -1,14 +1,9 @@
 -- What is under way: a reply is awaited, or none is.
 use mathlib.Core.Path.{◌≡◌, refl}
-use mathlib.Core.List.{List, [], ◌∷◌}
-use Prim.Native.Nat.{ℕ}
-use types.Run.{OneOf, miss}
-use denote.Enum.Declared.{tag_of}
 use Rattle.client_session.specs.declared.Command.{Command}
 use Rattle.client_session.specs.declared.Under.{Under}
 use Rattle.client_session.specs.declared.Under.TheVariants.{Idle, Awaiting, Complete}
 use Rattle.client_session.specs.Session.{when_awaiting}
-use Rattle.client_session.specs.contracts.Under as the_under
 
 -- no reply is awaited
 abbrev pub NotAwaiting : Under → Type 0

@@ -1,12 +1,8 @@
 -- `client_session::piece::count_without_nulls` meets its contract. The invariant: the count and the bytes left that are not 00 make up all of these.
-use mathlib.Core.Path.{◌≡◌, ap}
-use mathlib.Core.Logic.{⊎_elim}
+use mathlib.Core.Path.{◌≡◌}
 use Prim.Native.Nat.{◌+◌, ◌≤◌, ◌-◌}
-use native.Mathlib.Omega.{arith}
 use lib.ListN.{length, drop}
-use borrow.Author.Rules.{rules}
 use Rattle.wire.specs.Text.{without_nulls}
-use Rattle.client_session.proofs.NullLaws.{null_next, byte_next, nulls_end}
 use Rattle.client_session.proofs.piece.count_without_nulls.Given as goal
 
 abbrev pub invariant-loop-i : goal.invariant-loop-i

@@ -1,11 +1,8 @@
 -- `client_session::piece::nulls_alone` meets its contract. The invariant: the bytes passed are 00, so nothing of the piece but what is left can be another.
-use mathlib.Core.Path.{◌≡◌, refl, sym, ◌∙◌}
+use mathlib.Core.Path.{◌≡◌}
 use Prim.Native.Nat.{◌≤◌, ◌-◌}
-use native.Mathlib.Omega.{arith}
 use lib.ListN.{length, drop}
-use borrow.Author.Rules.{rules}
 use Rattle.wire.specs.Text.{without_nulls}
-use Rattle.client_session.proofs.NullLaws.{null_next, not_alone, all_null}
 use Rattle.client_session.proofs.piece.nulls_alone.Given as goal
 
 abbrev pub invariant-loop-i : goal.invariant-loop-i

@@ -1,15 +1,10 @@
 -- `client_session::piece::put_without_nulls` meets its contract. The invariant: the bytes left that are not 00, stored from here, give the final buffer.
-use mathlib.Core.Path.{◌≡◌, refl, sym, ◌∙◌}
-use mathlib.Core.Logic.{⊎_elim}
+use mathlib.Core.Path.{◌≡◌}
 use Prim.Native.Nat.{◌+◌, ◌≤◌, ◌-◌, min}
-use native.Mathlib.Omega.{arith}
 use lib.Seq.{sets}
 use lib.ListN.{length, drop}
-use borrow.Author.Rules.{rules}
 use Rattle.wire.specs.Put.{Put}
 use Rattle.wire.specs.Text.{without_nulls}
-use Rattle.wire.proofs.PutLaws.{put_length, put_nil, put_rest}
-use Rattle.client_session.proofs.NullLaws.{null_next, byte_next, nulls_end}
 use Rattle.client_session.proofs.piece.put_without_nulls.Given as goal
 
 abbrev pub invariant-loop-i : goal.invariant-loop-i
