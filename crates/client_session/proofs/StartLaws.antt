@@ -7,7 +7,7 @@ use native.Mathlib.Omega.{arith}
 use lib.Dec.{eqb, ltb}
 use lib.ListN.{length, length-append}
 use borrow.Author.Tests.{ne_eqb, le-ltb, ltb-false}
-use Rattle.wire.specs.Answer.{unless}
+use Rattle.wire.specs.Answer.{result, unless}
 use Rattle.wire.specs.Text.{ascii, same}
 use Rattle.wire.proofs.Cases.{by_test, or_none_lem}
 use Rattle.wire.proofs.UnlessLaws.{unless_by}
@@ -16,7 +16,7 @@ use Rattle.client_command.proofs.CommandLaws.{cr_length}
 use Rattle.server_state.specs.State.{may_try}
 use Rattle.client_session.specs.declared.Command.TheVariants.{Reset, Query, Repeat}
 use Rattle.client_session.specs.Session.{Request, Client, is_idle, with_query}
-use Rattle.client_session.specs.Call.{ClientSaid, sends}
+use Rattle.client_session.specs.Call.{sent, ClientSaid, sends}
 use Rattle.client_session.specs.Start.{init_says, command_says, send_query, request, query_says}
 
 -- a query repeats the last one
@@ -29,6 +29,9 @@ query_repeated c q e = rw e
 
 pub query_in_full : (c : Client) (q : Request) → repeats c q ≡ false → send_query c q ≡ sends (with_query c q) Query (q.text ++ (13 ∷ []))
 query_in_full c q e = rw e
+
+pub query-sent : (c : Client) (q : Request) → (send_query c q).answer ≡ result sent
+query-sent c q = by_test (repeats c q) (λ e. rw e) (λ e. rw e)
 
 -- nothing is under way, and there is room
 module _ (room : ℕ) (c : Client) (free : is_idle c.under ≡ true) (fits : 80 ≤ room) where

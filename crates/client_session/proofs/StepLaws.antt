@@ -6,12 +6,13 @@ use native.Mathlib.Omega.{arith}
 use lib.ListN.{length, take}
 use lib.Seq.{take_all}
 use Rattle.wire.specs.declared.Refusal.{Refusal}
-use Rattle.wire.specs.Answer.{Answer, number}
+use Rattle.wire.specs.Answer.{Answer, result, refused, number}
 use Rattle.wire.specs.Put.{Put}
 use Rattle.wire.proofs.Cases.{from_no}
 use Rattle.wire.proofs.PutLaws.{put_none, put_front}
 use Rattle.client_session.specs.declared.ClientSession.{ClientSession}
 use Rattle.client_session.specs.declared.ClientAnswer.{ClientAnswer}
+use Rattle.client_session.specs.declared.ClientAnswer.TheVariants as answer
 use Rattle.client_session.specs.declared.ClientStep.{ClientStep}
 use Rattle.client_session.specs.Session.{Client}
 use Rattle.client_session.specs.Call.{Progress, ClientSaid, ClientServed, client_lent, client_answer, client_step, RefusedOrFailed}
@@ -45,9 +46,22 @@ ends_as q p = record { answer = p.answer; written = p.written; next = p.next ∙
 pub put_kept : {out left t : List ℕ} {r : ℕ} → Put out 0 t r left → length t ≤ length out → take r left ≡ t
 put_kept {out} {t} p h = put_front p ∙ take_all (length out) t h
 
--- a refused call has a number of 1 to 6, and leaves the session
+-- ---- which of the two numbered answers is given: neither with a result, Refused with 1 to 6, and Failed with 7 and more
+
+pub told_result : (r : ClientStep) {s : ClientSession} {p : Progress} → client_answer r.answer ≡ result p → RefusedOrFailed r s
+told_result r {p = p} e = (
+  λ q f. let w : refused (number q) ≡ result p = sym (ap client_answer f) ∙ e in from_no cc,
+  λ q f. let w : refused (number q) ≡ result p = sym (ap client_answer f) ∙ e in from_no cc,
+)
+
 pub told_refused : {s : ClientSession} {q : Refusal} → number q ≤ 6 → RefusedOrFailed (unchanged s q) s
 told_refused {q = q} h = (
   λ p e. let w : q ≡ p = cc in (subst (λ (x : Refusal). number x ≤ 6) w h, refl),
   λ p e. from_no cc,
+)
+
+pub told_failed : (r : ClientStep) {s : ClientSession} {q : Refusal} → r.answer ≡ answer.Failed q → 7 ≤ number q → RefusedOrFailed r s
+told_failed r {q = q} f h = (
+  λ p e. from_no cc,
+  λ p e. let w : q ≡ p = cc in subst (λ (x : Refusal). 7 ≤ number x) w h,
 )
