@@ -48,9 +48,6 @@ loop-pids-smaller c =
     let w = (step_query _ _ (all_from (λ b. b < 256) c.args.script.now (λ i h. omega (arith, c.type_inv.script i))) c.step.ensures c.in-Query.is).1 in
     omega (arith, w.here.after, w.here.inside)
 
-pub add_part-added-requires : goal.add_part-added-requires
-add_part-added-requires c = (c.part-part.ensures.inside, c.loop-pids.invariant.0.inside)
-
 pub returns-in-Refused : goal.returns-in-Refused
 returns-in-Refused c =
     let (q, w) = (step_query _ _ (all_from (λ b. b < 256) c.args.script.now (λ i h. omega (arith, c.type_inv.script i))) c.step.ensures c.in-Query.is) in

@@ -14,9 +14,6 @@ returns-in-Refused c =
     begin_refused a.repeat a.lengths.now a.script.now a.buffer.now c.requires i.result _ _ i.ensures q c.refused.result e
     c.refused.ensures
 
-pub ask_all-requires : goal.ask_all-requires
-ask_all-requires c = (c.requires, c.initialise-begun.ensures.room)
-
 pub returns : goal.returns
 returns c =
     let a = c.args in

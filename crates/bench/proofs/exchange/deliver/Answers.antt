@@ -1,23 +1,13 @@
 -- `bench::exchange::deliver` meets its contract.
-use mathlib.Core.Path.{◌≡◌, refl, sym, ◌∙◌}
+use mathlib.Core.Path.{◌≡◌, sym, ◌∙◌}
 use Prim.Native.Nat.{◌+◌, ◌-◌, ◌<◌, min}
 use native.Mathlib.Omega.{arith}
-use lib.ListN.{length, take, drop, length-drop}
-use borrow.Author.Tests.{not-true, not-false}
+use lib.ListN.{length, drop, length-drop}
 use Rattle.client_session.specs.Session.{client}
 use Rattle.bench.specs.Deliver.{next_size}
 use Rattle.bench.specs.Steps.{delivered, delivery_lent}
-use Rattle.bench.proofs.PiecesLaws.{next-within}
 use Rattle.bench.proofs.DeliverLaws.{piece_at, piece_after, more_received, last_received, none_received}
 use Rattle.bench.proofs.exchange.deliver.Goals as goal
-
-pub loop-at-init : goal.loop-at-init
-loop-at-init c = (omega arith, refl, refl, refl)
-
-pub loop-at-smaller : goal.loop-at-smaller
-loop-at-smaller c =
-    let ks = drop c.loop-at.spent c.args.lengths.now in
-    omega (arith, c.loop-at-test.true, c.at_most.ensures, c.next_size.ensures, (next-within ks).0)
 
 pub returns-then-not-awaits : goal.returns-then-not-awaits
 returns-then-not-awaits c =

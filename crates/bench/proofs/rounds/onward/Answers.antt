@@ -1,15 +1,9 @@
 use native.Mathlib.Omega.{arith}
-use Rattle.bench.proofs.OnwardLaws.{Held, held_same, held_then, held_does, does_held, onward-held, onward_stops, onward_goes, onward-ended}
-use Rattle.bench.specs.Steps.{round_of, Room}
-use Rattle.bench.specs.Run.{onward}
+use Rattle.bench.proofs.OnwardLaws.{held_then, held_does, does_held, onward-held, onward_stops, onward_goes, onward-ended}
 use lib.ListN.{length, take, length-take}
 use Prim.Native.Nat.{◌-◌, ◌≤◌, ◌<◌}
-use mathlib.Core.Path.{◌≡◌}
 use borrow.Author.Rules.{rules}
 use Rattle.bench.proofs.rounds.onward.Goals as goal
-
-pub loop-left-init : goal.loop-left-init
-loop-left-init c = (held_same _, search rules, c.requires.1, search rules)
 
 pub returns-then-at-eq0 : goal.returns-then-at-eq0
 returns-then-at-eq0 c =
@@ -17,9 +11,6 @@ returns-then-at-eq0 c =
     let at = head.loop-left.at in
     let none : length (take at.written head.loop-left.out) ≤ 0 = omega (arith, length-take at.written head.loop-left.out, c.if-at-eq0.true) in
     held_does (held_then head.loop-left.invariant.0 (onward_stops head.loop-left.left _ _ none)) head.loop-left.invariant.1 head.loop-left.invariant.2
-
-pub round-at-requires : goal.round-at-requires
-round-at-requires c = let head = c in (head.loop-left.invariant.1, head.loop-left.invariant.2)
 
 pub loop-left-preserved : goal.loop-left-preserved
 loop-left-preserved c =

@@ -1,14 +1,10 @@
 -- `bench::rounds::round` meets its contract.
 use mathlib.Core.Path.{sym}
-use Prim.Native.Nat.{◌≤◌}
-use lib.ListN.{length, take}
+use lib.ListN.{take}
 use lib.Seq.{length-take-le}
 use Rattle.server_session.specs.Session.{session}
 use Rattle.bench.proofs.RoundLaws.{reply_inside, round_does}
 use Rattle.bench.proofs.rounds.round.Goals as goal
-
-pub slice_bounds-exchange-end-2 : goal.slice_bounds-exchange-end-2
-slice_bounds-exchange-end-2 c = sym (length-take-le _ _ c.requires.0)
 
 pub slice_bounds-back-end : goal.slice_bounds-back-end
 slice_bounds-back-end c =

@@ -1,13 +1,8 @@
-use mathlib.Core.Path.{◌≡◌, sym, ◌∙◌}
-use Prim.Native.Nat.{◌-◌, ◌≤◌, ◌<◌}
+use mathlib.Core.Path.{sym, ◌∙◌}
+use Prim.Native.Nat.{◌<◌}
 use native.Mathlib.Omega.{arith}
-use lib.ListN.{length}
-use borrow.Author.Rules.{rules}
-use Rattle.wire.proofs.All.{Bytes, all_from}
-use Rattle.bench.specs.Steps.{queries_in}
+use Rattle.wire.proofs.All.{all_from}
 use Rattle.bench.proofs.StepLaws.{step_query, step_end, step_none}
-use Rattle.group.proofs.WalkLaws.{from, counted_from}
-use Rattle.bench.specs.Script.{query_format}
 use Rattle.bench.proofs.CheckLaws.{count_long, count_start, count_query, count_end, count_none}
 use Rattle.bench.proofs.script.check_script.Goals as goal
 
@@ -16,9 +11,6 @@ returns-then-script-gt16384 c = sym (count_long _ c.if-script-gt16384.true)
 
 pub loop-next-init : goal.loop-next-init
 loop-next-init c = (omega (arith, c.new-cursor.ensures), omega (arith, c.new-cursor.ensures), count_start _ _ c.if-script-gt16384.false c.new-cursor.ensures)
-
-pub overflow_add-queries : goal.overflow_add-queries
-overflow_add-queries c = omega (arith, c.loop-next.invariant.0, c.loop-next.invariant.1, c.if-script-gt16384.false)
 
 pub loop-next-smaller : goal.loop-next-smaller
 loop-next-smaller c =

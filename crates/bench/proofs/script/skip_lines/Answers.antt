@@ -1,21 +1,7 @@
-use mathlib.Core.Path.{◌≡◌, refl, sym, ◌∙◌}
-use Prim.Native.Nat.{◌≤◌}
-use native.Mathlib.Omega.{arith}
-use lib.ListN.{length}
-use borrow.Author.Rules.{rules}
+use mathlib.Core.Path.{sym, ◌∙◌}
 use Rattle.line_list.proofs.StepLaws.{step_line, step_end, step_none}
-use Rattle.bench.specs.Steps.{lines_after}
 use Rattle.bench.proofs.LinesLaws.{skip_line, skip_none, skip_end, skip_over}
 use Rattle.bench.proofs.script.skip_lines.Goals as goal
-
-pub loop-left-init : goal.loop-left-init
-loop-left-init c = (c.requires, refl)
-
-pub overflow_sub-left : goal.overflow_sub-left
-overflow_sub-left c = omega (arith, c.loop-left-test.true)
-
-pub loop-left-smaller : goal.loop-left-smaller
-loop-left-smaller c = omega (arith, c.loop-left-test.true)
 
 pub loop-left-preserved : goal.loop-left-preserved
 loop-left-preserved c =
