@@ -3,12 +3,8 @@ use native.Mathlib.Omega.{arith}
 use Rattle.agreement.proofs.Agreement.{agreement}
 use Rattle.agreement.proofs.run_two.Goals as goal
 
-pub returns : goal.returns
-returns c = record {
-  buffer1_after = c.run-one.ensures;
-  buffer2_after = c.run-two.ensures;
-  agreement =
-      agreement _ _
-      (record { bytes = λ i h. omega (arith, c.type_inv.script1 i); ran = c.run-one.ensures })
-      (record { bytes = λ i h. omega (arith, c.type_inv.script2 i); ran = c.run-two.ensures });
-}
+pub returns-clause-agreement : goal.returns-clause-agreement
+returns-clause-agreement c =
+    agreement _ _
+    (record { bytes = λ i h. omega (arith, c.type_inv.script1 i); ran = c.run-one.ensures })
+    (record { bytes = λ i h. omega (arith, c.type_inv.script2 i); ran = c.run-two.ensures })

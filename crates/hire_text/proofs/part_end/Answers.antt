@@ -1,7 +1,6 @@
-use borrow.Author.Rules.{rules}
 use Rattle.group.proofs.AtLaws.{number_at, none_at}
 use Rattle.value.proofs.StepLaws.{step_value, step_end, step_none}
-use Rattle.hire_text.proofs.PartLaws.{ValuesLeft, no_number, left_start, left-value, left_none, left-past, left_end}
+use Rattle.hire_text.proofs.PartLaws.{no_number, left_start, left-value, left_none, left-past}
 use Rattle.hire_text.proofs.part_end.Goals as goal
 
 pub returns-in_default : goal.returns-in_default
@@ -20,6 +19,3 @@ returns-in-End c = left-past c.loop-left.invariant c.loop-left-test.true (step_e
 
 pub returns-in-Refused : goal.returns-in-Refused
 returns-in-Refused c = left_none c.loop-left.invariant c.loop-left-test.true (step_none _ _ c.step.ensures c.in-Refused.is).1
-
-pub returns : goal.returns
-returns c = left_end c.loop-left.invariant c.loop-left-test.false
