@@ -6,7 +6,6 @@ use Rattle.wire.specs.Text.{ascii, same, begins}
 use Rattle.client_state.specs.Settings.{Settings, fresh}
 use Rattle.at_command.specs.declared.AtKind.{AtKind}
 use Rattle.at_command.specs.declared.AtKind.TheVariants.{Reset, Set, Accepted, Identity, Voltage, Protocol, ProtocolNumber, Unknown}
-use Rattle.at_command.specs.declared.Setting.{Setting}
 use Rattle.at_command.specs.declared.Setting.TheVariants.{Echo, Linefeeds, Spaces, Headers}
 use Rattle.at_command.specs.declared.IdentityText.{IdentityText}
 use Rattle.at_command.specs.declared.IdentityText.TheVariants.{Ati, Device}

@@ -1,4 +1,6 @@
 // The AT dialect (handle_at_command of the Rust's server_session.rs). The work is by value; `handle_at_command` is a thin function over settings that are lent.
+#![tactic(auto)]
+
 ghost use Rattle.std.specs.Prelude.{◌≡◌, drop, true, false, cond};
 ghost use Rattle.wire.specs.Text.{same, begins};
 ghost use Rattle.client_state.specs.Settings.{settings};

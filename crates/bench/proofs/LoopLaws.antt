@@ -3,8 +3,6 @@ use mathlib.Core.Path.{◌≡◌, refl, sym, ap, subst, ◌∙◌}
 use mathlib.Core.List.{List, [], ◌∷◌, ◌++◌, append-nil}
 use Prim.Native.Nat.{ℕ, ◌+◌, ◌-◌, ◌≤◌, ◌<◌}
 use native.Mathlib.Omega.{arith}
-use denote.Enum.Declared.{tag_of}
-use types.Run.{OneOf, miss}
 use lib.Dec.{ltb}
 use lib.ListN.{length, take, drop, length-append}
 use lib.Seq.{sets, length-sets}
@@ -20,9 +18,9 @@ use Rattle.group.specs.Group.{group_bytes}
 use Rattle.client_session.specs.Session.{client}
 use Rattle.bench.specs.Script.{Query, query_format}
 use Rattle.bench.specs.Steps.{query_step, query_at}
+use Rattle.bench.specs.declared.ScriptCursor.{ScriptCursor}
 use Rattle.bench.specs.declared.QueryStep.{QueryStep}
 use Rattle.bench.specs.declared.QueryStep.TheVariants as step
-use Rattle.bench.specs.contracts.QueryStep.{the_type}
 use Rattle.bench.proofs.StepLaws.{QueryHere, step_end, step_none}
 use Rattle.bench.proofs.ScriptLaws.{ahead_start}
 use Rattle.bench.proofs.QueryLaws.{query_lawful, query_some}
@@ -140,9 +138,10 @@ module _ {whole : Recorded} {s lengths : List ℕ} {b : code.Bench} {place at : 
       sym (l.rest ∙ ap (λ qs. lent_from at (asked (length buffer - at) (bench_of b store lengths) qs) buffer) none ∙ recorded-same refl (omega arith) refl)
 
   -- and before the end a step finds a query
-  pub left_done : (r : QueryStep) → query_step r ≡ query_at s place → OneOf (1 ∷ 2 ∷ []) (tag_of the_type r) →
+  pub left_done : (r : QueryStep) → query_step r ≡ query_at s place →
+      ((pids few count list : ℕ) (next : ScriptCursor) → r ≡ step.Query pids few count list next → ⊥) →
       recorded (record { answer = Complete; written = at }) buffer ≡ whole
-  left_done (step.Query pids few count list next) e k = absurd (miss (1 ∷ 2 ∷ []) 0 tt k)
+  left_done (step.Query pids few count list next) e k = absurd (k pids few count list next refl)
   left_done step.End e k = left_end (step_end s place e refl)
   left_done (step.Refused n) e k = let none = step_none s place {n = n} e refl in absurd (ahead_none query_format s place l.queries l.ahead none.0 none.1)
 

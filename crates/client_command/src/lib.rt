@@ -1,4 +1,6 @@
 // The commands that a client sends besides queries: raw ones, and those of the initialisation (`command` and `init` of the Rust's client_session.rs).
+#![tactic(auto)]
+
 ghost use Rattle.std.specs.Prelude.{◌≡◌};
 ghost use Rattle.wire.specs.Put.{Put};
 ghost use Rattle.client_command.specs.Commands.{with_cr, is_command, framing_effect, setup_text};

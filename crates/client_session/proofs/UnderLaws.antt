@@ -1,22 +1,17 @@
 -- What is under way: a reply is awaited, or none is.
 use mathlib.Core.Path.{◌≡◌, refl}
-use mathlib.Core.List.{List, [], ◌∷◌}
-use Prim.Native.Nat.{ℕ}
-use types.Run.{OneOf, miss}
-use denote.Enum.Declared.{tag_of}
 use Rattle.client_session.specs.declared.Command.{Command}
 use Rattle.client_session.specs.declared.Under.{Under}
 use Rattle.client_session.specs.declared.Under.TheVariants.{Idle, Awaiting, Complete}
 use Rattle.client_session.specs.Session.{when_awaiting}
-use Rattle.client_session.specs.contracts.Under as the_under
 
--- what a match knows where it has left out the one case with a command
+-- no reply is awaited
 abbrev pub NotAwaiting : Under → Type 0
-NotAwaiting u = OneOf (0 ∷ 2 ∷ []) (tag_of the_under.the_type u)
+NotAwaiting u = (k : Command) → u ≡ Awaiting k → ⊥
 
 pub none_awaited : {X : Type 0} (u : Under) (none : X) (say : Command → X) → NotAwaiting u → when_awaiting u none say ≡ none
 none_awaited Idle none say h = refl
-none_awaited (Awaiting k) none say h = absurd (miss (0 ∷ 2 ∷ []) 1 tt h)
+none_awaited (Awaiting k) none say h = absurd (h k refl)
 none_awaited Complete none say h = refl
 
 -- what holds of both cases holds

@@ -1,4 +1,6 @@
 // The client end of the wire protocol: it drives an ELM327 (client_session.rs of the Rust). Each call takes the session by value and gives the next one back.
+#![tactic(auto)]
+
 mod finish;
 mod piece;
 mod start;

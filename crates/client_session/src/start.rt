@@ -18,8 +18,9 @@ use server_state::FeatureSupport;
 use wire::{Refusal, Verdict};
 
 // Whether the initialisation is refused.
+#[tactic(auto, unfolding(crate::specs::Start::init_says, wire::specs::Answer::unless))]
 fn init_verdict(under: Under, room: usize) -> Verdict
-    ensures c_value { (c : Client) → c.under ≡ under → init_says room c ≡ settled result (client_refusing c) (sends c Command.Reset (ascii "ATZ\r")) }
+    ensures says { (c : Client) → c.under ≡ under → init_says room c ≡ settled result (client_refusing c) (sends c Command.Reset (ascii "ATZ\r")) }
     ensures early { Early result }
 {
     if !crate::is_idle(under) {
@@ -32,8 +33,9 @@ fn init_verdict(under: Under, room: usize) -> Verdict
 }
 
 // Whether a raw command is refused.
+#[tactic(auto, unfolding(crate::specs::Start::command_says, wire::specs::Answer::unless))]
 fn command_verdict(under: Under, command: &[u8], room: usize) -> Verdict
-    ensures command_value { (c : Client) → c.under ≡ under → command_says room c command.now ≡
+    ensures says { (c : Client) → c.under ≡ under → command_says room c command.now ≡
         settled result (client_refusing c) (sends (with_last_query c []) (Command.Raw (framing_effect command.now)) (with_cr command.now)) }
     ensures early { Early result }
 {
@@ -53,11 +55,12 @@ fn command_verdict(under: Under, command: &[u8], room: usize) -> Verdict
 }
 
 // Whether a query is refused.
+#[tactic(auto, unfolding(crate::specs::Start::query_says, wire::specs::Answer::unless))]
 fn query_verdict(under: Under, pids: &[u8], room: usize) -> Verdict
-    ensures by_index { (c : Client) → (count : ℕ) → (several : Bool) → c.under ≡
+    ensures says { (c : Client) → (count : ℕ) → (several : Bool) → c.under ≡
         under → query_says room c pids.now count several ≡ settled result (client_refusing c) (send_query c (request pids.now count several)) }
     ensures early { Early result }
-    ensures pids_len_bound { result ≡ Verdict.Accepted → length pids.now ≤ 6 }
+    ensures at_most_six { result ≡ Verdict.Accepted → length pids.now ≤ 6 }
 {
     if !crate::is_idle(under) {
         return Verdict::Refused(Refusal::OutOfTurn);

@@ -1,4 +1,6 @@
 // The settings of one client (ClientState of the Rust's lib.rs).
+#![tactic(auto)]
+
 ghost use Rattle.std.specs.Prelude.{◌≡◌, length};
 ghost use Rattle.wire.specs.Put.{Put};
 ghost use Rattle.client_state.specs.Settings.{settings, fresh, line_ending, with_last};

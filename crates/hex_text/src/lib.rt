@@ -1,4 +1,6 @@
 // Hex digits, pairs and three-digit ids, read and written.
+#![tactic(auto)]
+
 ghost use Rattle.std.specs.Prelude.{◌≡◌, [], ◌∷◌, ◌%◌};
 ghost use Rattle.wire.specs.Put.{Put};
 ghost use Rattle.hex_text.specs.Read.{digit, hex_number};

@@ -1,4 +1,6 @@
 // PIDs and their data lengths: document 01's cut of SAE J1979 (pid.rs of the Rust).
+#![tactic(auto)]
+
 ghost use Rattle.std.specs.Prelude.{◌≡◌};
 ghost use Rattle.pid.specs.Lengths.{mode01_lengths, length_in, data_length};
 

@@ -1,4 +1,6 @@
 // The text of a query (wire_command of the Rust's client_session.rs).
+#![tactic(auto)]
+
 ghost use Rattle.wire.specs.Put.{Put};
 ghost use Rattle.hex_text.specs.Digits.{hex_bytes};
 ghost use Rattle.query.specs.Query.{decimal, count_text, count_of, text_of_query};

@@ -1,4 +1,6 @@
 // What the server sends as a reply: the chip's shape, and line lists written in it (reply, push_header and push_hex of the Rust's server_session.rs).
+#![tactic(auto)]
+
 ghost use Rattle.std.specs.Prelude.{◌≡◌, true, false, cond, List, [], ◌∷◌, ◌++◌, map, ℕ, ◌+◌, ◌≤◌, length, drop};
 ghost use Rattle.wire.specs.Answer.{count_answer};
 ghost use Rattle.wire.specs.Put.{Put, count_written};

@@ -7,12 +7,12 @@ use native.Mathlib.Omega.{arith}
 use lib.Dec.{eqb, ltb}
 use lib.ListN.{length, get_or, length-reverse, get_or-map}
 use borrow.Author.Tests.{ne_eqb, eqb-true, lt-ltb}
-use Rattle.wire.specs.Text.{has, is_space, passing, without_nulls}
+use Rattle.wire.specs.Text.{is_space, passing, without_nulls}
 use Rattle.wire.proofs.Cases.{by_test}
 use Rattle.wire.proofs.PassingLaws.{passing_again, passing-reverse, nulls-has}
 use Rattle.hex_text.specs.Read.{pair_bytes}
 use Rattle.line_list.specs.Lines.{line}
-use Rattle.reply_lines.specs.Lines.{onto, split_cr, is_trimmed, trim_start, trim_end, trimmed, stays, text_lines, unspaced}
+use Rattle.reply_lines.specs.Lines.{onto, split_cr, trim_start, trim_end, trimmed, stays, text_lines, unspaced}
 use Rattle.reply_lines.specs.Decode.{framed_line, text_line, lines_of_reply}
 use Rattle.reply_lines.specs.Reader.{line_from, step_text, position_after}
 use Rattle.reply_lines.proofs.WalkLaws.{walk_gives}

@@ -1,4 +1,6 @@
 // The lines of a reply (parse_lines and decode_hex of the Rust's client_session.rs).
+#![tactic(auto)]
+
 ghost use Rattle.std.specs.Prelude.{◌≡◌, [], ◌∷◌, suc, ◌+◌, ◌-◌, ◌≤◌, min, length, take, drop, get_or};
 ghost use Rattle.std.proofs.Math.Option;
 ghost use Rattle.wire.specs.Put.{Put};

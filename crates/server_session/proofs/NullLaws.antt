@@ -5,9 +5,8 @@ use mathlib.Core.List.{List, [], ◌∷◌, ◌++◌}
 use Prim.Native.Nat.{ℕ, ◌-◌}
 use lib.Dec.{eqb}
 use lib.ListN.{length}
-use Rattle.wire.specs.Answer.{Answer, result, refused}
 use Rattle.wire.specs.Text.{ascii, has}
-use Rattle.wire.proofs.Cases.{by_test, or_none_lem, either}
+use Rattle.wire.proofs.Cases.{or_none_lem, either}
 use Rattle.wire.proofs.TextLaws.{has-append}
 use Rattle.wire.proofs.UnlessLaws.{unless_by}
 use Rattle.client_state.specs.Settings.{line_ending}

@@ -1,5 +1,5 @@
 -- What the private steps of the code do. No public contract cites these.
-use Rattle.std.specs.Prelude.{◌≡◌, Bool, true, false, cond, ◌||◌, List, [], ◌∷◌, ◌++◌, ℕ, ◌+◌, ◌-◌, ◌≤◌, ◌<◌, min, eqb, leb, length, take, drop}
+use Rattle.std.specs.Prelude.{◌≡◌, Bool, true, false, cond, ◌||◌, List, [], ◌++◌, ℕ, ◌+◌, ◌-◌, ◌≤◌, ◌<◌, min, eqb, leb, length, take, drop}
 use Rattle.wire.specs.Put.{Put}
 use Rattle.wire.specs.Text.{any}
 use Rattle.client_state.specs.Settings.{Settings}

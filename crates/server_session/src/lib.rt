@@ -1,5 +1,7 @@
 // The server end of the wire protocol: it plays an ELM327 to a reader (server_session.rs of the Rust). Each call takes the session by value and gives the
 // next one back.
+#![tactic(auto)]
+
 mod replies;
 
 ghost use Rattle.std.specs.Prelude.{◌≡◌, cond, ◌&&◌, not, List, [], ◌∷◌, ℕ, ◌+◌, ◌-◌, ◌≤◌, min, eqb, leb, length, take};
@@ -344,7 +346,7 @@ fn end_empty(flags: Flags, out: &mut [u8], at: usize) -> Did
 // The end of a line: its command is handed out.
 fn end_line(line: &mut [u8; 128], len: usize, flags: Flags, out: &mut [u8], at: usize) -> Did
     requires { length line.old ≡ 128 }
-    ensures fact { ((s : Session) → s.line ≡ take len line.old → Shows s.state flags →
+    ensures says { ((s : Session) → s.line ≡ take len line.old → Shows s.state flags →
         ByteDoes (line_end s [] (canonical s.line)) s.state line.new out.old at result out.new) }
     ensures line_after { length line.new ≡ 128 }
 {
@@ -373,10 +375,10 @@ fn take_byte(
     at: usize,
 ) -> Did
     requires { length line.old ≡ 128 }
-    ensures fact { ((state : Settings) → Shows state flags →
+    ensures says { ((state : Settings) → Shows state flags →
         ByteDoes (byte_says (length out.old - at) (turn_session turn state line.old) b) state line.new out.old at result out.new) }
     ensures line_after { length line.new ≡ 128 }
-    ensures fact_2 { ((q : Refusal) → result.answer ≡ ServerAnswer.Refused q → Leaves turn line.old result line.new) }
+    ensures refused_unchanged { ((q : Refusal) → result.answer ≡ ServerAnswer.Refused q → Leaves turn line.old result line.new) }
 {
     let verdict = byte_verdict(turn, b, room_at(out.len(), at));
     if let Verdict::Refused(refusal) = verdict {
@@ -420,11 +422,11 @@ fn take_byte(
 // a call for each.
 fn take_bytes(line: &mut [u8; 128], turn: Turn, flags: Flags, input: &[u8], out: &mut [u8]) -> Did
     requires { length line.old ≡ 128 }
-    ensures fact { ((state : Settings) → Shows state flags →
+    ensures says { ((state : Settings) → Shows state flags →
         Serves (server_lent (bytes_say (length out.old) (turn_session turn state line.old) input.now) out.old) state line.new result
         out.new) }
     ensures line_after { length line.new ≡ 128 }
-    ensures fact_2 { ((q : Refusal) → result.answer ≡ ServerAnswer.Refused q → result.taken ≡ 0 → Leaves turn line.old result line.new) }
+    ensures refused_unchanged { ((q : Refusal) → result.answer ≡ ServerAnswer.Refused q → result.taken ≡ 0 → Leaves turn line.old result line.new) }
 {
     let mut turn = turn;
     let mut i: usize = 0;
@@ -481,7 +483,7 @@ impl ServerSession {
     // One byte from the reader.
     pub fn byte(mut self, b: u8, out: &mut [u8]) -> ServerStep
         ensures out_after { server_step result out.new ≡ server_lent (byte_says (length out.old) (session self) b) out.old }
-        ensures fact { ((q : Refusal) → result.answer ≡ ServerAnswer.Refused q → result.session ≡ self) }
+        ensures refused_unchanged { ((q : Refusal) → result.answer ≡ ServerAnswer.Refused q → result.session ≡ self) }
     {
         let turn = self.turn;
         let flags = read_flags(
@@ -508,7 +510,7 @@ impl ServerSession {
     // Bytes from the reader, one after the other: it stops after the one that hands a command out, or before the one that gets a number.
     pub fn bytes(mut self, input: &[u8], out: &mut [u8]) -> ServerStep
         ensures out_after { server_step result out.new ≡ server_lent (bytes_say (length out.old) (session self) input.now) out.old }
-        ensures fact { ((q : Refusal) → result.answer ≡ ServerAnswer.Refused q → result.taken ≡ 0 → result.session ≡ self) }
+        ensures refused_unchanged { ((q : Refusal) → result.answer ≡ ServerAnswer.Refused q → result.taken ≡ 0 → result.session ≡ self) }
     {
         let turn = self.turn;
         let flags = read_flags(

@@ -195,7 +195,7 @@ impl ServerSession {
     // Answers the AT command that is handed out, with the line ending that is then in force. ati and device are the identity strings for ATI and AT@1.
     pub fn answer<'a>(self, ati: &'a [u8], device: &'a [u8], out: &mut [u8]) -> ServerStep
         ensures out_after { server_step result out.new ≡ server_lent (answer_says (length out.old) (session self) ati.now device.now) out.old }
-        ensures session_value { (q : Refusal) → result.answer ≡ ServerAnswer.Refused q → result.session ≡ self }
+        ensures refused_unchanged { (q : Refusal) → result.answer ≡ ServerAnswer.Refused q → result.session ≡ self }
     {
         let verdict = answer_verdict(self.turn, ati, device, out.len());
         if let Verdict::Refused(refusal) = verdict {
@@ -210,7 +210,7 @@ impl ServerSession {
     // becomes the last one.
     pub fn reply(self, list: &[u8], out: &mut [u8]) -> ServerStep
         ensures out_after { server_step result out.new ≡ server_lent (reply_says (length out.old) (session self) list.now) out.old }
-        ensures session_value { (q : Refusal) → result.answer ≡ ServerAnswer.Refused q → result.session ≡ self }
+        ensures refused_unchanged { (q : Refusal) → result.answer ≡ ServerAnswer.Refused q → result.session ≡ self }
     {
         let turn = self.turn;
         let phase = turn.phase;
@@ -236,7 +236,7 @@ impl ServerSession {
     // Rejects the OBD command that is handed out with a line of text, as `?` or UNABLE TO CONNECT. The last command remains.
     pub fn reject(self, text: &[u8], out: &mut [u8]) -> ServerStep
         ensures out_after { server_step result out.new ≡ server_lent (reject_says (length out.old) (session self) text.now) out.old }
-        ensures session_value { (q : Refusal) → result.answer ≡ ServerAnswer.Refused q → result.session ≡ self }
+        ensures refused_unchanged { (q : Refusal) → result.answer ≡ ServerAnswer.Refused q → result.session ≡ self }
     {
         let linefeeds = self.state.linefeeds_enabled;
         let verdict = reject_verdict(self.turn, text, linefeeds, out.len());

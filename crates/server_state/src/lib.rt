@@ -1,4 +1,6 @@
 // What a client has set on, or learned about, the ELM327 it talks to (FeatureSupport and ServerState of the Rust's client_session.rs).
+#![tactic(auto)]
+
 ghost use Rattle.std.specs.Prelude.{◌≡◌};
 ghost use Rattle.pid.specs.Lengths.{data_length, length_in};
 ghost use Rattle.query.specs.Query.{count_of};

@@ -1,6 +1,5 @@
 -- `at_command::at_handled` meets its contract.
 use mathlib.Core.Path.{ap, ◌∙◌}
-use borrow.Author.Rules.{rules}
 use Rattle.client_state.specs.Settings.{settings}
 use Rattle.at_command.specs.Dialect.{kind_settings}
 use Rattle.at_command.proofs.at_handled.Goals as goal

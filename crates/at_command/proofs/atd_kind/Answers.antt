@@ -1,6 +1,5 @@
 -- `at_command::atd_kind` meets its contract.
 use mathlib.Core.Path.{sym, ◌∙◌}
-use borrow.Author.Rules.{rules}
 use Rattle.at_command.proofs.Laws.{first, next}
 use Rattle.at_command.proofs.atd_kind.Goals as goal
 

@@ -1,6 +1,5 @@
 -- `at_command::one_text` meets its contract.
 use mathlib.Core.Path.{sym, ◌∙◌, refl}
-use borrow.Author.Rules.{rules}
 use Rattle.at_command.proofs.Laws.{first, next}
 use Rattle.at_command.proofs.one_text.Goals as goal
 

@@ -2,7 +2,6 @@
 use Rattle.at_command.proofs.Laws.{first, next, digit_is, digit_none}
 use borrow.Author.Tests.{eq-eqb, ne_eqb}
 use mathlib.Core.Path.{refl, ◌∙◌}
-use borrow.Author.Rules.{rules}
 use Rattle.at_command.proofs.switched.Goals as goal
 
 pub returns-then-command-ne4 : goal.returns-then-command-ne4

@@ -1,5 +1,4 @@
 -- `at_command::with_kind` meets its contract.
-use borrow.Author.Rules.{rules}
 use Rattle.at_command.proofs.with_kind.Goals as goal
 
 pub returns-in-Reset : goal.returns-in-Reset

@@ -1,5 +1,4 @@
 -- `at_command::with_setting` meets its contract.
-use borrow.Author.Rules.{rules}
 use Rattle.at_command.proofs.with_setting.Goals as goal
 
 pub returns-in-Echo : goal.returns-in-Echo

@@ -1,6 +1,5 @@
 -- `client_command::framing_effect` meets its contract.
 use mathlib.Core.Path.{sym, ◌∙◌}
-use borrow.Author.Rules.{rules}
 use Rattle.client_command.specs.Commands.{framing_effect}
 use Rattle.client_command.proofs.framing_effect.Goals as goal
 

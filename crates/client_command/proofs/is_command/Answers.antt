@@ -1,11 +1,6 @@
-use mathlib.Core.List.{map}
-use mathlib.Core.Path.{◌≡◌, sym, ◌∙◌}
-use Prim.Native.Nat.{◌≤◌, ◌-◌}
+use mathlib.Core.Path.{sym, ◌∙◌}
 use native.Mathlib.Omega.{arith}
-use lib.ListN.{length, drop}
 use borrow.Author.Rules.{rules}
-use Rattle.wire.specs.Text.{begins, raised}
-use Rattle.client_command.specs.Commands.{is_command}
 use Rattle.wire.proofs.TextLaws.{begins_end}
 use Rattle.client_command.proofs.CommandLaws.{raised_differ, raised-next, command_begins, command_long}
 use Rattle.client_command.proofs.is_command.Goals as goal

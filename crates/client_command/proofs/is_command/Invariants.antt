@@ -1,14 +1,10 @@
 -- `client_command::is_command` meets its contract. The invariant: the rest of the command, raised, begins with the rest of the text just where the whole does.
 use mathlib.Core.List.{map}
-use mathlib.Core.Path.{◌≡◌, sym, ◌∙◌}
+use mathlib.Core.Path.{◌≡◌}
 use Prim.Native.Nat.{◌≤◌, ◌-◌}
-use native.Mathlib.Omega.{arith}
 use lib.ListN.{length, drop}
-use borrow.Author.Rules.{rules}
 use Rattle.wire.specs.Text.{begins, raised}
 use Rattle.client_command.specs.Commands.{is_command}
-use Rattle.wire.proofs.TextLaws.{begins_end}
-use Rattle.client_command.proofs.CommandLaws.{raised_differ, raised-next, command_begins, command_long}
 use Rattle.client_command.proofs.is_command.Given as goal
 
 abbrev pub invariant-loop-i : goal.invariant-loop-i

@@ -1,6 +1,4 @@
 -- `client_command::put_command` meets its contract.
-use Prim.Native.Nat.{◌-◌}
-use borrow.Author.Rules.{rules}
 use Rattle.wire.proofs.PutLaws.{put_then}
 use Rattle.client_command.proofs.CommandLaws.{cr_there, cr_added, cr_alone}
 use Rattle.client_command.proofs.put_command.Goals as goal

@@ -1,5 +1,4 @@
 -- `client_command::put_setup` meets its contract.
-use borrow.Author.Rules.{rules}
 use Rattle.client_command.proofs.CommandLaws.{setup_last}
 use Rattle.client_command.proofs.put_setup.Goals as goal
 

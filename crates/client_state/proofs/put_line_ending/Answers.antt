@@ -1,5 +1,4 @@
 -- `client_state::put_line_ending` meets its contract.
-use borrow.Author.Rules.{rules}
 use Rattle.wire.proofs.PutLaws.{put_then}
 use Rattle.client_state.proofs.put_line_ending.Goals as goal
 

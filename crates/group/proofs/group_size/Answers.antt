@@ -1,8 +1,6 @@
-use mathlib.Core.Path.{◌≡◌, ap}
-use Prim.Native.Nat.{◌+◌}
+use mathlib.Core.Path.{ap}
 use native.Mathlib.Omega.{arith}
 use lib.ListN.{length}
-use Rattle.group.specs.Group.{group_bytes}
 use Rattle.group.proofs.GroupLaws.{group_bytes_small, group_bytes_big, group_bytes_some, group_bytes_ten}
 use Rattle.group.proofs.group_size.Goals as goal
 

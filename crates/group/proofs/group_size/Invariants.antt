@@ -1,10 +1,8 @@
 -- `group::group_size` meets its contract. The invariant: the bytes counted and those of what is left of the number are all of its bytes, and one more.
-use mathlib.Core.Path.{◌≡◌, ap}
+use mathlib.Core.Path.{◌≡◌}
 use Prim.Native.Nat.{◌+◌}
-use native.Mathlib.Omega.{arith}
 use lib.ListN.{length}
 use Rattle.group.specs.Group.{group_bytes}
-use Rattle.group.proofs.GroupLaws.{group_bytes_small, group_bytes_big, group_bytes_some, group_bytes_ten}
 use Rattle.group.proofs.group_size.Given as goal
 
 abbrev pub invariant-loop-left : goal.invariant-loop-left

@@ -1,12 +1,6 @@
-use mathlib.Core.Path.{◌≡◌, refl, sym, ◌∙◌}
-use Prim.Native.Nat.{◌+◌, ◌-◌, min}
+use mathlib.Core.Path.{refl, sym, ◌∙◌}
 use native.Mathlib.Omega.{arith}
-use lib.ListN.{length}
-use lib.Seq.{sets}
-use borrow.Author.Rules.{rules}
-use Rattle.wire.specs.Put.{Put}
 use Rattle.wire.proofs.PutLaws.{put_length, put_rest, put_same}
-use Rattle.group.specs.Group.{group_bytes}
 use Rattle.group.proofs.GroupLaws.{group_bytes_small, group_bytes_big}
 use Rattle.group.proofs.put_group.Goals as goal
 

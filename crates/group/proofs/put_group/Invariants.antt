@@ -1,14 +1,10 @@
 -- `group::put_group` meets its contract. The invariant: what is left of the number, written from here, gives the final buffer.
-use mathlib.Core.Path.{◌≡◌, refl, sym, ◌∙◌}
+use mathlib.Core.Path.{◌≡◌}
 use Prim.Native.Nat.{◌+◌, ◌-◌, min}
-use native.Mathlib.Omega.{arith}
 use lib.ListN.{length}
 use lib.Seq.{sets}
-use borrow.Author.Rules.{rules}
 use Rattle.wire.specs.Put.{Put}
-use Rattle.wire.proofs.PutLaws.{put_length, put_rest, put_same}
 use Rattle.group.specs.Group.{group_bytes}
-use Rattle.group.proofs.GroupLaws.{group_bytes_small, group_bytes_big}
 use Rattle.group.proofs.put_group.Given as goal
 
 abbrev pub invariant-loop-left : goal.invariant-loop-left

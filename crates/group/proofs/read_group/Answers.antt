@@ -3,7 +3,6 @@ use mathlib.Core.Path.{sym, ◌∙◌}
 use Prim.Native.Nat.{◌+◌}
 use native.Mathlib.Omega.{arith}
 use Rattle.group.proofs.AtLaws.{at_end, at_one, at_cut, at_zero, at_two}
-use borrow.Author.Rules.{rules}
 use Rattle.group.proofs.read_group.Goals as goal
 
 pub returns-then-s-at : goal.returns-then-s-at

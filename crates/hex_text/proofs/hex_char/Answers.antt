@@ -1,6 +1,5 @@
 -- `hex_text::hex_char` meets its contract.
 use borrow.Author.Tests.{lt-ltb, le-ltb}
-use borrow.Author.Rules.{rules}
 use Rattle.hex_text.specs.Digits.{hex_digit}
 use Rattle.hex_text.proofs.hex_char.Goals as goal
 

@@ -1,7 +1,6 @@
 -- `hex_text::hex_digit` meets its contract: a range of the match is a range of the definition.
 use mathlib.Core.Path.{sym}
 use native.Mathlib.Omega.{arith}
-use borrow.Author.Rules.{rules}
 use Rattle.hex_text.proofs.ReadLaws.{digit_09, digit_AF, digit_af, digit_bad}
 use Rattle.hex_text.proofs.hex_digit.Goals as goal
 

@@ -1,5 +1,4 @@
 -- `hex_text::put_hex_byte` meets its contract: two digits, one after the other.
-use borrow.Author.Rules.{rules}
 use Rattle.hex_text.proofs.DigitLaws.{put_digit}
 use Rattle.wire.proofs.PutLaws.{put_none}
 use Rattle.hex_text.proofs.put_hex_byte.Goals as goal

@@ -1,12 +1,5 @@
-use mathlib.Core.Path.{◌≡◌, sym, ◌∙◌}
-use Prim.Native.Nat.{◌-◌, ◌≤◌}
+use mathlib.Core.Path.{sym, ◌∙◌}
 use native.Mathlib.Omega.{arith}
-use lib.ListN.{drop}
-use borrow.Author.Rules.{rules}
-use Rattle.group.proofs.WalkLaws.{counted_from}
-use Rattle.group.specs.Format.{read_all}
-use Rattle.line_list.specs.Lines.{line_format}
-use Rattle.line_list.specs.Answers.{lines_in}
 use Rattle.line_list.proofs.StepLaws.{step_line, step_end, step_none}
 use Rattle.line_list.proofs.CheckLaws.{count_start, count_line, count_end, count_none, count_full}
 use Rattle.line_list.proofs.check_lines.Goals as goal

@@ -1,15 +1,11 @@
 -- `line_list::check_lines` meets its contract. The invariant: the lines counted, and those read from here on, give the answer for the whole list.
-use mathlib.Core.Path.{◌≡◌, sym, ◌∙◌}
+use mathlib.Core.Path.{◌≡◌}
 use Prim.Native.Nat.{◌-◌, ◌≤◌}
-use native.Mathlib.Omega.{arith}
 use lib.ListN.{drop}
-use borrow.Author.Rules.{rules}
 use Rattle.group.proofs.WalkLaws.{counted_from}
 use Rattle.group.specs.Format.{read_all}
 use Rattle.line_list.specs.Lines.{line_format}
 use Rattle.line_list.specs.Answers.{lines_in}
-use Rattle.line_list.proofs.StepLaws.{step_line, step_end, step_none}
-use Rattle.line_list.proofs.CheckLaws.{count_start, count_line, count_end, count_none, count_full}
 use Rattle.line_list.proofs.check_lines.Given as goal
 
 abbrev pub invariant-loop-lines : goal.invariant-loop-lines

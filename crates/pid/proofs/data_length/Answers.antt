@@ -1,6 +1,5 @@
 -- `pid::data_length` meets its contract.
 use borrow.Author.Tests.{lt-ltb, le-ltb}
-use borrow.Author.Rules.{rules}
 use Rattle.pid.proofs.data_length.Goals as goal
 
 pub returns-then-entry-lt-UNKNOWN : goal.returns-then-entry-lt-UNKNOWN

@@ -1,5 +1,4 @@
 -- `query::put_count` meets its contract: nothing, or a space and the number.
-use borrow.Author.Rules.{rules}
 use Rattle.wire.proofs.PutLaws.{put_then, put_none}
 use Rattle.query.proofs.put_count.Goals as goal
 

@@ -1,5 +1,4 @@
 -- `query::put_decimal` meets its contract: each way out by the number of digits.
-use borrow.Author.Rules.{rules}
 use Rattle.query.proofs.QueryLaws.{decimal_one, decimal_two, decimal-three}
 use Rattle.wire.proofs.PutLaws.{put_then}
 use Rattle.query.proofs.put_decimal.Goals as goal

@@ -1,12 +1,6 @@
-use mathlib.Core.Path.{◌≡◌, refl, sym, ◌∙◌}
-use Prim.Native.Nat.{◌+◌, ◌-◌, ◌≤◌, min}
+use mathlib.Core.Path.{refl, sym, ◌∙◌}
 use native.Mathlib.Omega.{arith}
-use lib.ListN.{length, drop}
-use lib.Seq.{sets}
-use borrow.Author.Rules.{rules}
 use Rattle.query.proofs.QueryLaws.{pids_step, pids_end}
-use Rattle.hex_text.specs.Digits.{hex_bytes}
-use Rattle.wire.specs.Put.{Put}
 use Rattle.wire.proofs.PutLaws.{put_length}
 use Rattle.query.proofs.put_pids.Goals as goal
 

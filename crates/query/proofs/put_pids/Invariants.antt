@@ -1,14 +1,10 @@
 -- `query::put_pids` meets its contract. The invariant: what is left of the PIDs, written from here, gives the final buffer.
-use mathlib.Core.Path.{◌≡◌, refl, sym, ◌∙◌}
+use mathlib.Core.Path.{◌≡◌}
 use Prim.Native.Nat.{◌+◌, ◌-◌, ◌≤◌, min}
-use native.Mathlib.Omega.{arith}
 use lib.ListN.{length, drop}
 use lib.Seq.{sets}
-use borrow.Author.Rules.{rules}
-use Rattle.query.proofs.QueryLaws.{pids_step, pids_end}
 use Rattle.hex_text.specs.Digits.{hex_bytes}
 use Rattle.wire.specs.Put.{Put}
-use Rattle.wire.proofs.PutLaws.{put_length}
 use Rattle.query.proofs.put_pids.Given as goal
 
 abbrev pub invariant-loop-i : goal.invariant-loop-i

@@ -1,5 +1,4 @@
 -- `query::put_query` meets its contract: the mode, the PIDs, the count.
-use borrow.Author.Rules.{rules}
 use Rattle.query.specs.Query.{text_of_query}
 use Rattle.wire.proofs.PutLaws.{put_then}
 use Rattle.query.proofs.put_query.Goals as goal

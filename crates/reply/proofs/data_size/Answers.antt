@@ -1,6 +1,5 @@
 -- `reply::data_size` meets its contract.
 use native.Mathlib.Omega.{arith}
-use borrow.Author.Rules.{rules}
 use Rattle.reply.proofs.SizeLaws.{no_data_lem}
 use Rattle.reply.proofs.data_size.Goals as goal
 

@@ -1,6 +1,5 @@
 -- `reply::ecu_id` meets its contract.
 use mathlib.Core.Path.{sym}
-use borrow.Author.Rules.{rules}
 use Rattle.reply.proofs.TextLaws.{id_known}
 use Rattle.reply.proofs.ecu_id.Goals as goal
 

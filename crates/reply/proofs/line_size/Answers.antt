@@ -1,6 +1,5 @@
 -- `reply::line_size` meets its contract. Its sum fits, since a line has at most 255 bytes.
 use native.Mathlib.Omega.{arith}
-use borrow.Author.Rules.{rules}
 use Rattle.reply.proofs.SizeLaws.{header_short, data_short, ending_short}
 use Rattle.reply.proofs.line_size.Goals as goal
 

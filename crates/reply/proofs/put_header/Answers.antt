@@ -1,5 +1,4 @@
 -- `reply::put_header` meets its contract: its writers follow one another. The cast keeps the low eight bits, which two digits go by.
-use borrow.Author.Rules.{rules}
 use Rattle.hex_text.proofs.DigitLaws.{byte_low}
 use Rattle.wire.proofs.PutLaws.{put_none, put_then}
 use Rattle.reply.proofs.put_header.Goals as goal

@@ -1,11 +1,10 @@
-use mathlib.Core.Path.{◌≡◌, refl}
+use mathlib.Core.Path.{refl}
 use mathlib.Core.Bool.{false}
-use Prim.Native.Nat.{◌+◌, ◌-◌, ◌*◌, ◌≤◌}
+use Prim.Native.Nat.{◌+◌, ◌≤◌}
 use native.Mathlib.Omega.{arith}
 use lib.ListN.{length, drop, length-set, length-drop}
-use borrow.Author.Rules.{rules}
 use Rattle.reply.proofs.SizeLaws.{further-length}
-use Rattle.reply.proofs.TextLaws.{Further, further_start, further_end, joined_turn}
+use Rattle.reply.proofs.TextLaws.{further_start, further_end, joined_turn}
 use Rattle.reply.proofs.put_joined.Goals as goal
 
 pub loop-i-init : goal.loop-i-init

@@ -1,12 +1,9 @@
 -- `reply::put_joined` meets its contract. The invariant: the bytes that are left, written from here, give the final buffer.
-use mathlib.Core.Path.{◌≡◌, refl}
+use mathlib.Core.Path.{◌≡◌}
 use mathlib.Core.Bool.{false}
 use Prim.Native.Nat.{◌+◌, ◌-◌, ◌*◌, ◌≤◌}
-use native.Mathlib.Omega.{arith}
-use lib.ListN.{length, drop, length-set, length-drop}
-use borrow.Author.Rules.{rules}
-use Rattle.reply.proofs.SizeLaws.{further-length}
-use Rattle.reply.proofs.TextLaws.{Further, further_start, further_end, joined_turn}
+use lib.ListN.{length}
+use Rattle.reply.proofs.TextLaws.{Further}
 use Rattle.reply.proofs.put_joined.Given as goal
 
 abbrev pub invariant-loop-i : goal.invariant-loop-i

@@ -1,5 +1,4 @@
 -- `reply::put_line_text` meets its contract: its writers follow one another.
-use borrow.Author.Rules.{rules}
 use Rattle.line_list.specs.Lines.{line}
 use Rattle.reply.proofs.TextLaws.{line_none, line_room, line_puts}
 use Rattle.reply.proofs.put_line_text.Goals as goal

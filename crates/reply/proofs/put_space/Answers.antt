@@ -1,5 +1,4 @@
 -- `reply::put_space` meets its contract.
-use borrow.Author.Rules.{rules}
 use Rattle.wire.proofs.PutLaws.{put_none}
 use Rattle.reply.proofs.put_space.Goals as goal
 

@@ -1,12 +1,9 @@
 -- `reply::put_spaced` meets its contract. The invariant: the bytes that are left, written from here, give the final buffer.
-use mathlib.Core.Path.{◌≡◌, refl}
+use mathlib.Core.Path.{◌≡◌}
 use mathlib.Core.Bool.{true}
 use Prim.Native.Nat.{◌+◌, ◌-◌, ◌*◌, ◌≤◌}
-use native.Mathlib.Omega.{arith}
-use lib.ListN.{length, drop, length-set, length-drop}
-use borrow.Author.Rules.{rules}
-use Rattle.reply.proofs.SizeLaws.{further-length}
-use Rattle.reply.proofs.TextLaws.{Further, further_start, further_end, spaced_turn}
+use lib.ListN.{length}
+use Rattle.reply.proofs.TextLaws.{Further}
 use Rattle.reply.proofs.put_spaced.Given as goal
 
 abbrev pub invariant-loop-i : goal.invariant-loop-i

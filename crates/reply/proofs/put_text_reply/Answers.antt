@@ -1,5 +1,4 @@
 -- `reply::put_text_reply` meets its contract: its writers follow one another.
-use borrow.Author.Rules.{rules}
 use Rattle.wire.proofs.PutLaws.{put_then}
 use Rattle.reply.proofs.put_text_reply.Goals as goal
 

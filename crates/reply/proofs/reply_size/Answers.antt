@@ -1,13 +1,7 @@
-use mathlib.Core.Path.{◌≡◌, refl, sym, ◌∙◌}
-use Prim.Native.Nat.{◌+◌, ◌-◌, ◌*◌, ◌≤◌}
+use mathlib.Core.Path.{refl, sym, ◌∙◌}
 use native.Mathlib.Omega.{arith}
-use lib.ListN.{drop}
-use borrow.Author.Rules.{rules}
-use Rattle.reply.proofs.SizeLaws.{ending_short, sized, size_none, size_start, size_line, size_short, size_end, size_bad, size_full}
-use Rattle.reply.specs.Steps.{reply_size}
+use Rattle.reply.proofs.SizeLaws.{ending_short, size_none, size_start, size_line, size_short, size_end, size_bad, size_full}
 use Rattle.line_list.proofs.StepLaws.{step_line, step_end, step_none}
-use Rattle.line_list.specs.Lines.{line_format}
-use Rattle.group.specs.Format.{read_all}
 use Rattle.reply.proofs.reply_size.Goals as goal
 
 pub overflow_add-size : goal.overflow_add-size

@@ -1,12 +1,9 @@
 -- `reply::reply_size` meets its contract. The invariant: the size so far, and the lines read from here on, give the answer for the whole list.
-use mathlib.Core.Path.{◌≡◌, refl, sym, ◌∙◌}
+use mathlib.Core.Path.{◌≡◌}
 use Prim.Native.Nat.{◌+◌, ◌-◌, ◌*◌, ◌≤◌}
-use native.Mathlib.Omega.{arith}
 use lib.ListN.{drop}
-use borrow.Author.Rules.{rules}
-use Rattle.reply.proofs.SizeLaws.{ending_short, sized, size_none, size_start, size_line, size_short, size_end, size_bad, size_full}
+use Rattle.reply.proofs.SizeLaws.{sized}
 use Rattle.reply.specs.Steps.{reply_size}
-use Rattle.line_list.proofs.StepLaws.{step_line, step_end, step_none}
 use Rattle.line_list.specs.Lines.{line_format}
 use Rattle.group.specs.Format.{read_all}
 use Rattle.reply.proofs.reply_size.Given as goal

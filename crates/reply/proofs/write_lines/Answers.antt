@@ -1,14 +1,7 @@
-use mathlib.Core.List.{List}
-use mathlib.Core.Path.{◌≡◌, refl, ◌∙◌}
-use Prim.Native.Nat.{ℕ, ◌+◌, ◌-◌, min}
+use mathlib.Core.Path.{refl, ◌∙◌}
 use native.Mathlib.Omega.{arith}
-use lib.Seq.{sets}
-use lib.ListN.{length}
-use borrow.Author.Rules.{rules}
-use Rattle.reply.proofs.WriteLaws.{lines_text, Left, left_start, left_room, left-next, left_end, left_bad}
+use Rattle.reply.proofs.WriteLaws.{left_start, left_room, left-next, left_end, left_bad}
 use Rattle.line_list.proofs.StepLaws.{step_line, step_end, step_none}
-use Rattle.line_list.specs.Lines.{Line, lines_of_list}
-use Rattle.group.specs.Group.{got}
 use Rattle.wire.proofs.PutLaws.{put_length}
 use Rattle.reply.proofs.write_lines.Goals as goal
 
@@ -69,3 +62,9 @@ returns-in-Refused c =
 -- LEFT
 -- -- NO GOAL for slice-bounds-put-line-text-end
 -- part-put-line-text-end c = let w = step_line _ _ c.before.before.before.before.step.ensures c.before.before.ecu.given.1 in omega arith
+
+pub slice_bounds-put_line_text-start : goal.slice_bounds-put_line_text-start
+slice_bounds-put_line_text-start c = let w = step_line _ _ c.step.ensures c.in-Line.is in omega arith
+
+pub slice_bounds-put_line_text-end : goal.slice_bounds-put_line_text-end
+slice_bounds-put_line_text-end c = let w = step_line _ _ c.step.ensures c.in-Line.is in omega arith

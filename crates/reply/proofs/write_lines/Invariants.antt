@@ -1,16 +1,12 @@
 -- `reply::write_lines` meets its contract. The invariant: the lines that are left, written from here, give the final buffer.
 use mathlib.Core.List.{List}
-use mathlib.Core.Path.{◌≡◌, refl, ◌∙◌}
+use mathlib.Core.Path.{◌≡◌}
 use Prim.Native.Nat.{ℕ, ◌+◌, ◌-◌, min}
-use native.Mathlib.Omega.{arith}
 use lib.Seq.{sets}
 use lib.ListN.{length}
-use borrow.Author.Rules.{rules}
-use Rattle.reply.proofs.WriteLaws.{lines_text, Left, left_start, left_room, left-next, left_end, left_bad}
-use Rattle.line_list.proofs.StepLaws.{step_line, step_end, step_none}
+use Rattle.reply.proofs.WriteLaws.{lines_text, Left}
 use Rattle.line_list.specs.Lines.{Line, lines_of_list}
 use Rattle.group.specs.Group.{got}
-use Rattle.wire.proofs.PutLaws.{put_length}
 use Rattle.reply.proofs.write_lines.Given as goal
 
 abbrev pub invariant-loop-ecu : goal.invariant-loop-ecu

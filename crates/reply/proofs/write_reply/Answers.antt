@@ -1,6 +1,5 @@
 -- `reply::write_reply` meets its contract: the size decides, and the text is then written whole.
 use native.Mathlib.Omega.{arith}
-use borrow.Author.Rules.{rules}
 use Rattle.reply.proofs.AnswerLaws.{answer_refused, answer_small, answer_none, answer_room, answer_some}
 use Rattle.reply.proofs.write_reply.Goals as goal
 

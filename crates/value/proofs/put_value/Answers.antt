@@ -1,5 +1,4 @@
 -- `value::put_value` meets its contract: the parts of a value, one after the other.
-use borrow.Author.Rules.{rules}
 use Rattle.value.specs.Values.{value_format}
 use Rattle.wire.proofs.PutLaws.{put_then}
 use Rattle.value.proofs.put_value.Goals as goal

@@ -4,7 +4,6 @@ use mathlib.Core.Path.{◌≡◌, ap}
 use Prim.Native.Nat.{ℕ, ◌+◌, ◌^◌, ◌≤◌, ◌<◌}
 use native.Mathlib.Omega.{arith}
 use lib.ListN.{length}
-use borrow.Author.Rules.{rules}
 use Rattle.value.proofs.ValueLaws.{value-length}
 use Rattle.value.specs.Values.{value}
 use Rattle.group.proofs.GroupLaws.{group_bytes_ten}
@@ -12,7 +11,6 @@ use Rattle.group.specs.Group.{group_bytes}
 use Rattle.value.proofs.value_size.Goals as goal
 
 short : {r : ℕ} (n : ℕ) → r ≡ length (group_bytes n) → n < 2 ^ 64 → r ≤ 10
-
 short n q h = omega (arith, group_bytes_ten n h)
 
 pub overflow_add-result : goal.overflow_add-result

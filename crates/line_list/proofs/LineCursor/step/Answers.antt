@@ -1,7 +1,6 @@
 -- `line_list::LineCursor::step` meets its contract: each way out by the law of what stands at the position.
 use mathlib.Core.Path.{sym}
 use native.Mathlib.Omega.{arith}
-use borrow.Author.Rules.{rules}
 use Rattle.group.proofs.AtLaws.{number_at, none_at}
 use Rattle.line_list.proofs.StepLaws.{at_end, at_no_ecu, at_no_size, at_no_data, at_data}
 use Rattle.line_list.proofs.LineCursor.step.Goals as goal

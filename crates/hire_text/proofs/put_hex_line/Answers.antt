@@ -1,0 +1,14 @@
+use mathlib.Core.Path.{◌∙◌}
+use native.Mathlib.Omega.{arith}
+use Rattle.wire.proofs.PutLaws.{put_length}
+use Rattle.hire_text.proofs.LineLaws.{line-next}
+use Rattle.hire_text.proofs.put_hex_line.Goals as goal
+
+pub loop-i-preserved : goal.loop-i-preserved
+loop-i-preserved c =
+    let second = c.put_byte-at.ensures in
+    let pair = c in
+    let test = pair in
+    let loop = test.loop-i in
+    let first = pair.put_hex_byte-at.ensures in
+    (omega arith, put_length second ∙ put_length first ∙ loop.invariant.1, line-next _ _ loop.invariant.2 test.loop-i-test.true first (rw c.separator.ensures at second))

@@ -1,0 +1,13 @@
+-- `hire_text::put_refused` meets its contract: the word, the number, LF.
+use borrow.Author.Rules.{rules}
+use Rattle.wire.proofs.PutLaws.{put_then}
+use Rattle.hire_text.specs.Hire.{refused_line}
+use Rattle.hire_text.proofs.put_refused.Goals as goal
+
+pub returns : goal.returns
+unfolding refused_line
+returns c =
+    let last = c in
+    let second = last in
+    let first = second in
+    put_then first.put-at.ensures (put_then second.put_decimal-at.ensures last.put_byte.ensures)
