@@ -14,8 +14,7 @@ use bench::RunAnswer;
 
 // A script on a server session, and then another one for so many rounds. Each round goes on with the session that the one before it left; the script and each round
 // log from the start of the log. The answer is the length of the last log.
-#[unsafe(no_mangle)]
-pub extern "C" fn driver_server(
+pub fn driver_server(
     script: &[u8],
     times: usize,
     again: &[u8],
@@ -29,8 +28,7 @@ pub extern "C" fn driver_server(
 }
 
 // The same on a client session that asks for CAN headers and repeats queries as told. The store is that of its replies.
-#[unsafe(no_mangle)]
-pub extern "C" fn driver_client(
+pub fn driver_client(
     framing: bool,
     repeat: bool,
     script: &[u8],
@@ -57,8 +55,7 @@ fn run_code(answer: RunAnswer) -> u8
 }
 
 // A bench run of a script with the lent piece lengths, its record in the lent buffer. The log has one entry: how the run ended, and the parts of the record that stand.
-#[unsafe(no_mangle)]
-pub extern "C" fn driver_bench(
+pub fn driver_bench(
     repeat: bool,
     script: &[u8],
     pieces: &[u8],

@@ -39,27 +39,3 @@ module _ (s t : List ℕ) (i : ℕ) where
   agree_next h k e =
       let one : agreeing (drop i s) (drop i t) ≡ suc (agreeing (drop (i + 1) s) (drop (i + 1) t)) = simp (add-one, drop-cons s i 0 h, drop-cons t i 0 k, eq-eqb (get_or s i 0) (get_or t i 0) e) in
       omega (arith, one)
-
--- a log is judged: the same, or different
-module _ (s t : List ℕ) where
-  pub judged-same : true ≡ same s t → verdict.Same ≡ judged s t
-  judged-same e = rw (← e)
-
-  pub judged_differs : false ≡ same s t → verdict.Differs (agreeing s t) ≡ judged s t
-  judged_differs e = rw (← e)
-
--- one more case: the same, the first that differs, and another that differs
-module _ (t : Tally) (v : Verdict) where
-  pub tallied-same : v ≡ verdict.Same → record { cases = t.cases + 1; first = t.first; place = t.place } ≡ tallied t v
-  tallied-same e = rw e
-
-  pub tallied-first : {place : ℕ} → v ≡ verdict.Differs place → t.first ≡ 0 → record { cases = t.cases + 1; first = t.cases + 1; place = place } ≡ tallied t v
-  tallied-first e h = rw (e, eq-eqb t.first 0 h)
-
-  pub tallied-other : {place : ℕ} → v ≡ verdict.Differs place → (t.first ≡ 0 → ⊥) → record { cases = t.cases + 1; first = t.first; place = t.place } ≡ tallied t v
-  tallied-other e h = rw (e, ne_eqb t.first 0 h)
-
--- in all cases there is one more
-pub tallied_cases : (t : Tally) (v : Verdict) → (tallied t v).cases ≡ t.cases + 1
-tallied_cases t verdict.Same = refl
-tallied_cases t (verdict.Differs place) = by_test (eqb t.first 0) (λ e. rw e) (λ e. rw e)

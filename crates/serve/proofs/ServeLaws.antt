@@ -27,13 +27,6 @@ use Rattle.server_session.proofs.ReplyLaws.{answer_fits, reply_fits}
 use Rattle.serve.specs.Vehicle.{vehicle}
 use Rattle.serve.specs.Serve.{dealt_with, served_in, serve_says}
 
--- a byte that is refused
-pub dealt_room : (a : ServerAnswer) (q : Refusal) (n : ℕ) → a ≡ Refused q → number q ≡ 6 → n ≡ dealt_with (server_answer a) n
-dealt_room a q n e f = rw (e, f)
-
-pub dealt_past : (a : ServerAnswer) (q : Refusal) (n : ℕ) → a ≡ Refused q → (number q ≡ 6 → ⊥) → n + 1 ≡ dealt_with (server_answer a) n
-dealt_past a q n e f = rw (e, ne_eqb (number q) 6 f)
-
 -- what comes after a byte that is taken
 dealt_after : (a : Answer Phase) (n : ℕ) → dealt_with a (1 + n) ≡ 1 + dealt_with a n
 dealt_after (result p) n = refl

@@ -13,11 +13,6 @@ use Rattle.group.specs.Group.{group_bytes}
 use Rattle.line_list.specs.Lines.{line_format, lines_bytes}
 use Rattle.serve.specs.Vehicle.{Parameter, parameter_line, parameters, asks_for, lines_for, vehicle}
 
--- the text of a query by its characters
-pub query-text : (command : List ℕ) (p : ℕ) {a b : ℕ} → a ≡ hex_digit (p / 16 % 16) → b ≡ hex_digit (p % 16) →
-    begins command (48 ∷ 49 ∷ a ∷ b ∷ []) ≡ begins command (ascii "01" ++ hex_byte p)
-query-text command p e f = rw (e, f)
-
 module _ (command : List ℕ) where
   -- the lines of the first parameter, and then the others'
   lines_more : (p : Parameter) (ps : List Parameter) → lines_bytes (lines_for command (p ∷ [])) ++ lines_bytes (lines_for command ps) ≡ lines_bytes (lines_for command (p ∷ ps))

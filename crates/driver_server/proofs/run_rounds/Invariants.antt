@@ -1,0 +1,19 @@
+-- `driver_server::run_rounds` meets its contract. The invariant: the rounds that are left, from here, come to what all of them come to from the script's end.
+use mathlib.Core.Path.{◌≡◌, refl, sym, ap, ◌∙◌}
+use Prim.Native.Nat.{◌+◌, ◌-◌, ◌≤◌}
+use native.Mathlib.Nat.{sub-zero}
+use native.Mathlib.Omega.{arith}
+use lib.ListN.{length}
+use borrow.Author.Rules.{rules}
+use Rattle.driver_log.specs.Log.{logged_of}
+use Rattle.driver_log.specs.Script.{calls, rounds}
+use Rattle.driver_server.specs.Server.{server_call, server_turn, server_at, server_run}
+use Rattle.driver_log.proofs.ScriptLaws.{rounds_turn, rounds_end}
+use Rattle.driver_server.proofs.run_rounds.Given as goal
+
+abbrev pub invariant-loop-round : goal.invariant-loop-round
+invariant-loop-round l = (l.round ≤ l.times) × (length l.out ≡ length l.initial.out) × (length l.log ≡ length l.initial.log) ×
+    (rounds (server_run l.again) (l.times - l.round) (server_turn l.turn l.out l.log) ≡ rounds (server_run l.again) l.times (server_turn l.initial.turn l.initial.out l.initial.log))
+
+abbrev pub decreases-loop-round : goal.decreases-loop-round
+decreases-loop-round l = l.times - l.round
