@@ -1,4 +1,4 @@
-//! The Rattle side: scripts of calls, run by the static library of the crate `driver`, and the log that it writes.
+//! The Rattle side: scripts of calls, run by the static library of the crate `driver_c`, and the log that it writes.
 
 extern "C" {
     fn driver_server(

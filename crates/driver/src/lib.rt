@@ -1,5 +1,7 @@
 // Runs scripts of calls on a session, and bench runs, and logs what each call answered, so that a program in another language can compare or time them. A script is a list of
 // calls: a kind, the length of the argument in two bytes, the lower first, and the argument. compare/README.md has the kinds and the entries of the log.
+#![tactic(auto)]
+
 ghost use Rattle.std.specs.Prelude.{◌≡◌};
 ghost use Rattle.server_session.specs.Session.{fresh_session};
 ghost use Rattle.client_session.specs.Session.{fresh_client};

@@ -1,4 +1,6 @@
 // Runs scripts of calls on a client session, and logs what each call answered.
+#![tactic(auto)]
+
 ghost use Rattle.std.specs.Prelude.{◌≡◌, take, drop};
 ghost use Rattle.wire.specs.Put.{Put};
 ghost use Rattle.pid.specs.Lengths.{data_length};

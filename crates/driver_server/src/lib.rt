@@ -1,4 +1,6 @@
 // Runs scripts of calls on a server session, and logs what each call answered.
+#![tactic(auto)]
+
 ghost use Rattle.std.specs.Prelude.{◌≡◌};
 ghost use Rattle.wire.specs.Put.{Put};
 ghost use Rattle.client_state.specs.Settings.{settings};

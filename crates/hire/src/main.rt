@@ -1,5 +1,7 @@
 // Reads a bench script from standard input, and prints each query's part of its hire record as a line of hex bytes. A read or a write that fails is told on
 // standard error.
+#![tactic(auto)]
+
 use reading::read_input;
 use std::io::{Read, Write};
 use wire::Count;

@@ -1,5 +1,7 @@
 // Runs several bench scripts from standard input one after the other, and prints what `hire` prints for each, with a line `--` after it. A case is a byte for the
 // record buffer (that many bytes; 0 for the 65,536 of `hire`), the script's length as two bytes, the higher first, and the script.
+#![tactic(auto)]
+
 ghost use Rattle.std.specs.Prelude.{◌≤◌};
 
 use reading::read_input;

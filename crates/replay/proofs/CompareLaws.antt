@@ -1,20 +1,13 @@
 -- Laws of how far two logs agree, one for each way through the loop that finds out.
 use mathlib.Core.Path.{◌≡◌, refl}
-use mathlib.Core.Bool.{true, false}
 use mathlib.Core.List.{List, [], ◌∷◌}
 use Prim.Native.Nat.{ℕ, suc, ◌+◌, ◌≤◌, ◌<◌}
 use native.Mathlib.Numerals.{add-one}
 use native.Mathlib.Omega.{arith}
 use lib.ListN.{length, drop, get_or, drop_of_length-le}
 use lib.Seq.{drop-cons}
-use lib.Dec.{eqb}
 use borrow.Author.Tests.{eq-eqb, ne_eqb}
-use Rattle.wire.specs.Text.{same}
-use Rattle.wire.proofs.Cases.{by_test}
-use Rattle.replay.specs.declared.Tally.{Tally}
-use Rattle.replay.specs.declared.Verdict.{Verdict}
-use Rattle.replay.specs.declared.Verdict.TheVariants as verdict
-use Rattle.replay.specs.Compare.{agreeing, judged, tallied}
+use Rattle.replay.specs.Compare.{agreeing}
 
 -- nothing agrees with an empty log
 pub agreeing_none : (s : List ℕ) → agreeing s [] ≡ 0

@@ -2,6 +2,8 @@
 // and 02 ask for, written by hand. compare/README.md says how the list is made. An entry is a byte for its kind, four numbers of two bytes, the lower first, and three
 // texts. The numbers are the size of the record buffer and the lengths of the texts: piece lengths, script, and stored log. Kind 0 is a heading, which is the third
 // text.
+#![tactic(auto)]
+
 ghost use Rattle.std.specs.Prelude.{◌≡◌, ◌+◌, ◌≤◌, ◌<◌, IfOk, length};
 ghost use Rattle.replay.specs.Compare.{agreeing, judged, tallied, Within};
 

@@ -6,16 +6,13 @@ use Prim.Native.Nat.{ℕ, ◌+◌, ◌-◌, ◌≤◌, ◌<◌}
 use native.Mathlib.Omega.{arith}
 use lib.Dec.{eqb, leb}
 use lib.ListN.{length}
-use borrow.Author.Tests.{eqb-true, eqb-false, ne_eqb, le-ltb}
-use Rattle.wire.specs.Answer.{Answer, result, refused, number, unless}
-use Rattle.wire.specs.declared.Refusal.{Refusal}
+use borrow.Author.Tests.{eqb-true, eqb-false, le-ltb}
+use Rattle.wire.specs.Answer.{Answer, result, refused, unless}
 use Rattle.wire.specs.Text.{ascii}
 use Rattle.wire.proofs.Cases.{by_test}
 use Rattle.line_list.specs.Lines.{lines_bytes}
 use Rattle.server_session.specs.declared.Phase.{Phase}
 use Rattle.server_session.specs.declared.Phase.TheVariants.{Reading, AtCommand, ObdCommand}
-use Rattle.server_session.specs.declared.ServerAnswer.{ServerAnswer}
-use Rattle.server_session.specs.declared.ServerAnswer.TheVariants.{Refused}
 use Rattle.server_session.specs.declared.ServerStep.{ServerStep}
 use Rattle.server_session.specs.Session.{Session, is_reading}
 use Rattle.server_session.specs.Call.{ServerSaid, ServerServed, server_answer, server_step, server_lent}

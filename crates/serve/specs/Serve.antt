@@ -1,5 +1,5 @@
 -- What `serve` does beside its session: how far it goes in the bytes that it read, and what it sends for a command that is handed out.
-use Rattle.std.specs.Prelude.{cond, List, [], ℕ, ◌+◌, eqb}
+use Rattle.std.specs.Prelude.{cond, [], ℕ, ◌+◌, eqb}
 use Rattle.wire.specs.Answer.{Answer, result, refused}
 use Rattle.wire.specs.Text.{ascii}
 use Rattle.line_list.specs.Lines.{lines_bytes}

@@ -1,16 +1,10 @@
 -- `driver_client::put_pids` meets its contract.
-use mathlib.Core.Path.{◌≡◌, refl, sym, ap, ◌∙◌}
+use mathlib.Core.Path.{◌≡◌}
 use Prim.Native.Nat.{◌+◌, ◌-◌, ◌≤◌, min}
-use native.Mathlib.Omega.{arith}
-use lib.ListN.{length, drop, drop_of_length-le}
+use lib.ListN.{length, drop}
 use lib.Seq.{sets}
-use borrow.Author.Rules.{rules}
-use Rattle.wire.proofs.PutLaws.{put_then, put_nil, put_length}
 use Rattle.wire.specs.Put.{Put}
-use Rattle.driver_log.proofs.LogLaws.{put_as}
-use Rattle.driver_log.specs.Log.{number_bytes}
-use Rattle.driver_client.specs.Client.{length_number, pids_entry}
-use Rattle.driver_client.proofs.EntryLaws.{pids_turn}
+use Rattle.driver_client.specs.Client.{pids_entry}
 use Rattle.driver_client.proofs.put_pids.Given as goal
 
 abbrev pub invariant-loop-i : goal.invariant-loop-i

@@ -19,8 +19,7 @@ use Rattle.driver_client.proofs.run.Goals as goal
 
 pub loop-from-preserved-in-1 : goal.loop-from-preserved-in-1
 loop-from-preserved-in-1 c =
-    let here = client_at (client c.loop-from.session) c.loop-from.at c.loop-from.store c.loop-from.out c.loop-from.log in
-    (
+    let here = client_at (client c.loop-from.session) c.loop-from.at c.loop-from.store c.loop-from.out c.loop-from.log in (
       omega (arith, c.argument_size.ensures),
       search rules,
       search rules,
@@ -32,8 +31,7 @@ loop-from-preserved-in-1 c =
 pub loop-from-preserved-in-2 : goal.loop-from-preserved-in-2
 loop-from-preserved-in-2 c =
     let here = client_at (client c.loop-from.session) c.loop-from.at c.loop-from.store c.loop-from.out c.loop-from.log in
-    let argument = take (c.loop-from.from + 3 + c.argument_size.result - (c.loop-from.from + 3)) (drop (c.loop-from.from + 3) c.args.script.now) in
-    (
+    let argument = take (c.loop-from.from + 3 + c.argument_size.result - (c.loop-from.from + 3)) (drop (c.loop-from.from + 3) c.args.script.now) in (
       omega (arith, c.argument_size.ensures),
       search rules,
       search rules,
@@ -47,8 +45,7 @@ loop-from-preserved-in-2 c =
 
 pub loop-from-preserved-in-3 : goal.loop-from-preserved-in-3
 loop-from-preserved-in-3 c =
-    let here = client_at (client c.loop-from.session) c.loop-from.at c.loop-from.store c.loop-from.out c.loop-from.log in
-    (
+    let here = client_at (client c.loop-from.session) c.loop-from.at c.loop-from.store c.loop-from.out c.loop-from.log in (
       omega (arith, c.argument_size.ensures),
       search rules,
       search rules,
@@ -62,8 +59,7 @@ loop-from-preserved-in-4 c =
     let here = client_at (client c.loop-from.session) c.loop-from.at c.loop-from.store c.loop-from.out c.loop-from.log in
     let argument = take (c.loop-from.from + 3 + c.argument_size.result - (c.loop-from.from + 3)) (drop (c.loop-from.from + 3) c.args.script.now) in
     let e = c.piece-step.ensures.out_after in
-    let s = c.piece-step.ensures.store_after ∙ ap (λ (x : ClientServed). store_after here.turn.session x.answer argument here.store) e in
-    (
+    let s = c.piece-step.ensures.store_after ∙ ap (λ (x : ClientServed). store_after here.turn.session x.answer argument here.store) e in (
       omega (arith, c.argument_size.ensures),
       search rules,
       search rules,
@@ -74,8 +70,7 @@ loop-from-preserved-in-4 c =
 
 pub loop-from-preserved-in-5 : goal.loop-from-preserved-in-5
 loop-from-preserved-in-5 c =
-    let here = client_at (client c.loop-from.session) c.loop-from.at c.loop-from.store c.loop-from.out c.loop-from.log in
-    (
+    let here = client_at (client c.loop-from.session) c.loop-from.at c.loop-from.store c.loop-from.out c.loop-from.log in (
       omega (arith, c.argument_size.ensures),
       search rules,
       search rules,
@@ -86,8 +81,7 @@ loop-from-preserved-in-5 c =
 
 pub loop-from-preserved-in-11 : goal.loop-from-preserved-in-11
 loop-from-preserved-in-11 c =
-    let here = client_at (client c.loop-from.session) c.loop-from.at c.loop-from.store c.loop-from.out c.loop-from.log in
-    (
+    let here = client_at (client c.loop-from.session) c.loop-from.at c.loop-from.store c.loop-from.out c.loop-from.log in (
       omega (arith, c.argument_size.ensures),
       search rules,
       search rules,
@@ -99,8 +93,7 @@ loop-from-preserved-in-11 c =
 pub loop-from-preserved : goal.loop-from-preserved
 loop-from-preserved c =
     let here = client_at (client c.loop-from.session) c.loop-from.at c.loop-from.store c.loop-from.out c.loop-from.log in
-    let kind = get_or c.args.script.now c.loop-from.from 0 in
-    (
+    let kind = get_or c.args.script.now c.loop-from.from 0 in (
       omega (arith, c.argument_size.ensures),
       search rules,
       search rules,

@@ -1,6 +1,5 @@
 -- `driver_server::put_state` meets its contract.
 use Rattle.wire.proofs.PutLaws.{put_then}
-use borrow.Author.Rules.{rules}
 use Rattle.driver_server.proofs.put_state.Goals as goal
 
 pub returns : goal.returns

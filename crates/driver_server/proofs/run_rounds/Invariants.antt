@@ -1,14 +1,9 @@
 -- `driver_server::run_rounds` meets its contract. The invariant: the rounds that are left, from here, come to what all of them come to from the script's end.
-use mathlib.Core.Path.{◌≡◌, refl, sym, ap, ◌∙◌}
-use Prim.Native.Nat.{◌+◌, ◌-◌, ◌≤◌}
-use native.Mathlib.Nat.{sub-zero}
-use native.Mathlib.Omega.{arith}
+use mathlib.Core.Path.{◌≡◌}
+use Prim.Native.Nat.{◌-◌, ◌≤◌}
 use lib.ListN.{length}
-use borrow.Author.Rules.{rules}
-use Rattle.driver_log.specs.Log.{logged_of}
-use Rattle.driver_log.specs.Script.{calls, rounds}
-use Rattle.driver_server.specs.Server.{server_call, server_turn, server_at, server_run}
-use Rattle.driver_log.proofs.ScriptLaws.{rounds_turn, rounds_end}
+use Rattle.driver_log.specs.Script.{rounds}
+use Rattle.driver_server.specs.Server.{server_turn, server_run}
 use Rattle.driver_server.proofs.run_rounds.Given as goal
 
 abbrev pub invariant-loop-round : goal.invariant-loop-round

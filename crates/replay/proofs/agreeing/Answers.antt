@@ -1,9 +1,5 @@
-use mathlib.Core.Path.{◌≡◌, ◌∙◌}
-use Prim.Native.Nat.{◌+◌, ◌-◌, ◌≤◌}
-use native.Mathlib.Omega.{arith}
-use lib.ListN.{length, drop}
+use mathlib.Core.Path.{◌∙◌}
 use borrow.Author.Rules.{rules}
-use Rattle.replay.specs.Compare.{agreeing}
 use Rattle.replay.proofs.CompareLaws.{stop_short, stop_differ, agree_next, stop_end}
 use Rattle.replay.proofs.agreeing.Goals as goal
 

@@ -1,11 +1,8 @@
 -- `replay::agreeing` meets its contract. The invariant: what is passed and what agrees from there on are what agrees in all.
-use mathlib.Core.Path.{◌≡◌, ◌∙◌}
+use mathlib.Core.Path.{◌≡◌}
 use Prim.Native.Nat.{◌+◌, ◌-◌, ◌≤◌}
-use native.Mathlib.Omega.{arith}
 use lib.ListN.{length, drop}
-use borrow.Author.Rules.{rules}
 use Rattle.replay.specs.Compare.{agreeing}
-use Rattle.replay.proofs.CompareLaws.{stop_short, stop_differ, agree_next, stop_end}
 use Rattle.replay.proofs.agreeing.Given as goal
 
 abbrev pub invariant-loop-i : goal.invariant-loop-i

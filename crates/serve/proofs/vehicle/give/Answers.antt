@@ -1,9 +1,8 @@
 -- `serve::vehicle::give` meets its contract.
 use mathlib.Core.Path.{sym, ◌∙◌}
 use native.Mathlib.Numerals.{unary_clauses}
-use borrow.Author.Tests.{not-true, not-false}
+use borrow.Author.Tests.{not-false}
 use Rattle.wire.proofs.PutLaws.{put_none, put_then}
-use borrow.Author.Rules.{rules}
 use Rattle.serve.proofs.vehicle.give.Goals as goal
 
 pub returns : goal.returns

@@ -1,9 +1,7 @@
 -- `serve::vehicle::put_lines` meets its contract.
-use Rattle.wire.proofs.PutLaws.{put_length}
 use lib.ListN.{drop}
 use Rattle.serve.specs.Vehicle.{parameters, vehicle}
 use Rattle.serve.proofs.VehicleLaws.{put_more}
-use borrow.Author.Rules.{rules}
 use Rattle.serve.proofs.vehicle.put_lines.Goals as goal
 
 pub returns : goal.returns
