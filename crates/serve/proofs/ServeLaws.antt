@@ -6,13 +6,16 @@ use Prim.Native.Nat.{ℕ, ◌+◌, ◌-◌, ◌≤◌, ◌<◌}
 use native.Mathlib.Omega.{arith}
 use lib.Dec.{eqb, leb}
 use lib.ListN.{length}
-use borrow.Author.Tests.{eqb-true, eqb-false, le-ltb}
-use Rattle.wire.specs.Answer.{Answer, result, refused, unless}
+use borrow.Author.Tests.{eqb-true, eqb-false, ne_eqb, le-ltb}
+use Rattle.wire.specs.Answer.{Answer, result, refused, number, unless}
+use Rattle.wire.specs.declared.Refusal.{Refusal}
 use Rattle.wire.specs.Text.{ascii}
 use Rattle.wire.proofs.Cases.{by_test}
 use Rattle.line_list.specs.Lines.{lines_bytes}
 use Rattle.server_session.specs.declared.Phase.{Phase}
 use Rattle.server_session.specs.declared.Phase.TheVariants.{Reading, AtCommand, ObdCommand}
+use Rattle.server_session.specs.declared.ServerAnswer.{ServerAnswer}
+use Rattle.server_session.specs.declared.ServerAnswer.TheVariants.{Refused}
 use Rattle.server_session.specs.declared.ServerStep.{ServerStep}
 use Rattle.server_session.specs.Session.{Session, is_reading}
 use Rattle.server_session.specs.Call.{ServerSaid, ServerServed, server_answer, server_step, server_lent}
@@ -23,6 +26,13 @@ use Rattle.server_session.proofs.BytesLaws.{bytes_on, bytes_stop}
 use Rattle.server_session.proofs.ReplyLaws.{answer_fits, reply_fits}
 use Rattle.serve.specs.Vehicle.{vehicle}
 use Rattle.serve.specs.Serve.{dealt_with, served_in, serve_says}
+
+-- a byte that is refused
+pub dealt_room : (a : ServerAnswer) (q : Refusal) (n : ℕ) → a ≡ Refused q → number q ≡ 6 → n ≡ dealt_with (server_answer a) n
+dealt_room a q n e f = rw (e, f)
+
+pub dealt_past : (a : ServerAnswer) (q : Refusal) (n : ℕ) → a ≡ Refused q → (number q ≡ 6 → ⊥) → n + 1 ≡ dealt_with (server_answer a) n
+dealt_past a q n e f = rw (e, ne_eqb (number q) 6 f)
 
 -- what comes after a byte that is taken
 dealt_after : (a : Answer Phase) (n : ℕ) → dealt_with a (1 + n) ≡ 1 + dealt_with a n

@@ -2,14 +2,21 @@
 use mathlib.Core.Path.{◌≡◌, refl}
 use mathlib.Core.Bool.{Bool, true, false, cond}
 use mathlib.Core.List.{List, [], ◌∷◌, ◌++◌, append-nil}
-use Prim.Native.Nat.{ℕ, ◌+◌, ◌≤◌}
+use Prim.Native.Nat.{ℕ, ◌+◌, ◌/◌, ◌%◌, ◌≤◌}
 use native.Mathlib.Omega.{arith}
 use lib.ListN.{length, take, drop, length-append}
 use Rattle.wire.specs.Put.{Put}
+use Rattle.wire.specs.Text.{ascii, begins}
 use Rattle.wire.proofs.PutLaws.{put_then}
+use Rattle.hex_text.specs.Digits.{hex_digit, hex_byte}
 use Rattle.group.specs.Group.{group_bytes}
 use Rattle.line_list.specs.Lines.{line_format, lines_bytes}
 use Rattle.serve.specs.Vehicle.{Parameter, parameter_line, parameters, asks_for, lines_for, vehicle}
+
+-- the text of a query by its characters
+pub query-text : (command : List ℕ) (p : ℕ) {a b : ℕ} → a ≡ hex_digit (p / 16 % 16) → b ≡ hex_digit (p % 16) →
+    begins command (48 ∷ 49 ∷ a ∷ b ∷ []) ≡ begins command (ascii "01" ++ hex_byte p)
+query-text command p e f = rw (e, f)
 
 module _ (command : List ℕ) where
   -- the lines of the first parameter, and then the others'
