@@ -1,5 +1,7 @@
 // Demand 3: two runs of one list of queries have equal records exactly when the two vehicles gave the same values. The statement stands in specs/, its proof in
 // proofs/.
+#![tactic(auto)]
+
 ghost use Rattle.std.specs.Prelude.{◌≡◌, length};
 ghost use Rattle.bench.specs.Run.{run_says, recorded, run_lent};
 ghost use Rattle.agreement.specs.Demand.{drive, Agreement};

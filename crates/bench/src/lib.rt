@@ -1,4 +1,6 @@
 // The bench run: a script of queries through a client session joined to a server session, and the hire record of it (document 01's terms).
+#![tactic(auto)]
+
 mod ask;
 mod exchange;
 mod rounds;

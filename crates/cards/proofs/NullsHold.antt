@@ -9,7 +9,6 @@ use Rattle.hex_text.specs.Read.{digit}
 use Rattle.pid.specs.J1979.{j1979}
 use Rattle.pid.specs.Lengths.{mode01_lengths}
 use Rattle.group.specs.Group.{group_bytes}
-use Rattle.line_list.specs.Lines.{line}
 use Rattle.value.specs.Values.{value_format}
 use Rattle.query.specs.Query.{text_of_query}
 use Rattle.reply_lines.specs.Lines.{text_lines}

@@ -11,7 +11,7 @@ use Rattle.reply_values.specs.Read.{read_reply}
 use Rattle.client_session.specs.declared.Command.TheVariants as command
 use Rattle.client_session.specs.declared.Under.TheVariants as under
 use Rattle.client_session.specs.Session.{Client, with_under}
-use Rattle.client_session.specs.Call.{sent, awaited, complete, ClientSaid, client_saying}
+use Rattle.client_session.specs.Call.{awaited, complete, ClientSaid, client_saying}
 use Rattle.client_session.specs.Start.{init_says, query_says}
 use Rattle.client_session.specs.Piece.{piece_says, store_after}
 use Rattle.client_session.specs.Pieces.{fed}

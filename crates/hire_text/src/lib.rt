@@ -1,4 +1,6 @@
 // What the program `hire` prints of a script: the parts of its hire record (document 01's terms) as lines of hex bytes, and the number that ended the run.
+#![tactic(auto)]
+
 ghost use Rattle.std.specs.Prelude.{◌≡◌, true, List, [], map, ℕ, length, drop};
 ghost use Rattle.std.proofs.lemmas.List.Edits.{sets};
 ghost use Rattle.wire.specs.Answer.{if_result};

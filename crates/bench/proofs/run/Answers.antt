@@ -1,5 +1,4 @@
 -- `bench::run` meets its contract.
-use borrow.Author.Rules.{rules}
 use Rattle.bench.proofs.CheckLaws.{check_queries, check_none}
 use Rattle.bench.proofs.RunLaws.{script_refused}
 use Rattle.bench.proofs.run.Goals as goal

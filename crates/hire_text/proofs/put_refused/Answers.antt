@@ -1,5 +1,4 @@
 -- `hire_text::put_refused` meets its contract: the word, the number, LF.
-use borrow.Author.Rules.{rules}
 use Rattle.wire.proofs.PutLaws.{put_then}
 use Rattle.hire_text.specs.Hire.{refused_line}
 use Rattle.hire_text.proofs.put_refused.Goals as goal

@@ -3,7 +3,7 @@ use mathlib.Core.Path.{sym}
 use Prim.Native.Nat.{◌<◌}
 use native.Mathlib.Omega.{arith}
 use Rattle.wire.proofs.All.{Bytes, all_from}
-use Rattle.group.proofs.AtLaws.{NumberAt, number_at, none_at}
+use Rattle.group.proofs.AtLaws.{number_at, none_at}
 use Rattle.bench.proofs.LinesLaws.{skip_to, skip_no}
 use Rattle.bench.proofs.StepLaws.{PidsAt, at_end, at_no_few, at_zero, at_no_pids, at_no_count, at_no_size, at_no_lines, at_lines}
 use Rattle.bench.proofs.ScriptCursor.step.Goals as goal

@@ -1,6 +1,5 @@
 -- `bench::ask::part` meets its contract.
 use Rattle.bench.proofs.AskLaws.{part_does}
-use borrow.Author.Rules.{rules}
 use Rattle.bench.proofs.ask.part.Goals as goal
 
 pub returns : goal.returns

@@ -1,6 +1,5 @@
 -- `bench::rounds::initialise` meets its contract.
 use mathlib.Core.List.{[]}
-use borrow.Author.Rules.{rules}
 use Rattle.bench.proofs.InitLaws.{initialised_does}
 use Rattle.bench.proofs.rounds.initialise.Goals as goal
 

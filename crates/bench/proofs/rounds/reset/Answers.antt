@@ -1,8 +1,6 @@
 -- `bench::rounds::reset` meets its contract.
-use mathlib.Core.Path.{◌≡◌, sym}
-use Prim.Native.Nat.{◌≤◌}
+use mathlib.Core.Path.{sym}
 use mathlib.Core.List.{[]}
-use lib.ListN.{length, take}
 use lib.Seq.{length-take-le}
 use Rattle.server_session.specs.Session.{fresh_session}
 use Rattle.bench.proofs.RoundLaws.{reply_inside}
