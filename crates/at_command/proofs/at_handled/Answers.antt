@@ -5,6 +5,4 @@ use Rattle.at_command.specs.Dialect.{kind_settings}
 use Rattle.at_command.proofs.at_handled.Goals as goal
 
 pub returns : goal.returns
-returns c =
-    let start = c in
-    (c.with_kind-next.ensures ∙ ap (λ k. kind_settings k (settings start.args.state)) c.at_kind-kind.ensures, c.at_kind-kind.ensures)
+returns c = (c.with_kind-next.ensures ∙ ap (λ k. kind_settings k (settings c.args.state)) c.at_kind-kind.ensures, c.at_kind-kind.ensures)

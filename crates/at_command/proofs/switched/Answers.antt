@@ -10,18 +10,14 @@ returns-then-command-ne4 c =
     next _ _ _ (digit_none text 48 c.if-command-ne4.true) (next _ _ _ (digit_none text 49 c.if-command-ne4.true) refl)
 
 pub returns-then-digit-eq48 : goal.returns-then-digit-eq48
-returns-then-digit-eq48 c =
-    let four = c in
-    first _ _ _ (digit_is four.args.command.now 48 four.if-command-ne4.false ∙ eq-eqb _ _ c.if-digit-eq48.true)
+returns-then-digit-eq48 c = first _ _ _ (digit_is c.args.command.now 48 c.if-command-ne4.false ∙ eq-eqb _ _ c.if-digit-eq48.true)
 
 pub returns-then-digit-eq49 : goal.returns-then-digit-eq49
 returns-then-digit-eq49 c =
-    let four = c in
-    let text = four.args.command.now in
-    next _ _ _ (digit_is text 48 four.if-command-ne4.false ∙ ne_eqb _ _ c.if-digit-eq48.false) (first _ _ _ (digit_is text 49 four.if-command-ne4.false ∙ eq-eqb _ _ c.if-digit-eq49.true))
+    let text = c.args.command.now in
+    next _ _ _ (digit_is text 48 c.if-command-ne4.false ∙ ne_eqb _ _ c.if-digit-eq48.false) (first _ _ _ (digit_is text 49 c.if-command-ne4.false ∙ eq-eqb _ _ c.if-digit-eq49.true))
 
 pub returns : goal.returns
 returns c =
-    let four = c in
-    let text = four.args.command.now in
-    next _ _ _ (digit_is text 48 four.if-command-ne4.false ∙ ne_eqb _ _ c.if-digit-eq48.false) (next _ _ _ (digit_is text 49 four.if-command-ne4.false ∙ ne_eqb _ _ c.if-digit-eq49.false) refl)
+    let text = c.args.command.now in
+    next _ _ _ (digit_is text 48 c.if-command-ne4.false ∙ ne_eqb _ _ c.if-digit-eq48.false) (next _ _ _ (digit_is text 49 c.if-command-ne4.false ∙ ne_eqb _ _ c.if-digit-eq49.false) refl)

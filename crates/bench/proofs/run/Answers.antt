@@ -5,14 +5,11 @@ use Rattle.bench.proofs.run.Goals as goal
 
 pub run_checked-requires : goal.run_checked-requires
 run_checked-requires c =
-    let m = c in
-    let q = check_queries m.args.script.now m.check_script.ensures c.in-Is.is in
+    let q = check_queries c.args.script.now c.check_script.ensures c.in-Is.is in
     (q.0, q.1)
 
 pub returns-in-Refused : goal.returns-in-Refused
 returns-in-Refused c =
     let refusal = c.in-Refused.refusal in
-    let m = c in
-    let s = m in
-    script_refused s.args.repeat s.args.lengths.now s.args.script.now s.args.buffer.now _ c.refused.result
-    (check_none s.args.script.now m.check_script.ensures c.in-Refused.is) c.refused.ensures
+    script_refused c.args.repeat c.args.lengths.now c.args.script.now c.args.buffer.now _ c.refused.result
+    (check_none c.args.script.now c.check_script.ensures c.in-Refused.is) c.refused.ensures

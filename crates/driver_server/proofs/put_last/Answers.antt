@@ -8,18 +8,13 @@ use Rattle.driver_server.proofs.put_last.Goals as goal
 
 pub slice_bounds-last-end : goal.slice_bounds-last-end
 slice_bounds-last-end c =
-    let start = c in
-    let h : length start.args.state.last_obd_command ≡ 128 = search rules in
-    omega (arith, c.last_size-size.ensures, length-take start.args.state.last_len start.args.state.last_obd_command)
+    let h : length c.args.state.last_obd_command ≡ 128 = search rules in
+    omega (arith, c.last_size-size.ensures, length-take c.args.state.last_len c.args.state.last_obd_command)
 
 pub slice_bounds-put_text-end : goal.slice_bounds-put_text-end
 slice_bounds-put_text-end c =
-    let start = c in
-    let h : length start.args.state.last_obd_command ≡ 128 = search rules in
-    simp length-take (omega (arith, c.last_size-size.ensures, length-take start.args.state.last_len start.args.state.last_obd_command))
+    let h : length c.args.state.last_obd_command ≡ 128 = search rules in
+    simp length-take (omega (arith, c.last_size-size.ensures, length-take c.args.state.last_len c.args.state.last_obd_command))
 
 pub returns : goal.returns
-returns c =
-    let at-last-size = c in
-    let start = at-last-size in
-    rw (← take_cut start.args.state.last_len start.args.state.last_obd_command, ← at-last-size.last_size-size.ensures) c.put_text.ensures
+returns c = rw (← take_cut c.args.state.last_len c.args.state.last_obd_command, ← c.last_size-size.ensures) c.put_text.ensures

@@ -8,18 +8,13 @@ use Rattle.driver_server.proofs.put_line.Goals as goal
 
 pub slice_bounds-line-end : goal.slice_bounds-line-end
 slice_bounds-line-end c =
-    let start = c in
-    let h : length start.args.server.line ≡ 128 = search rules in
-    omega (arith, c.command_size-size.ensures, length-take start.args.server.turn.len start.args.server.line)
+    let h : length c.args.server.line ≡ 128 = search rules in
+    omega (arith, c.command_size-size.ensures, length-take c.args.server.turn.len c.args.server.line)
 
 pub slice_bounds-put_text-end : goal.slice_bounds-put_text-end
 slice_bounds-put_text-end c =
-    let start = c in
-    let h : length start.args.server.line ≡ 128 = search rules in
-    simp length-take (omega (arith, c.command_size-size.ensures, length-take start.args.server.turn.len start.args.server.line))
+    let h : length c.args.server.line ≡ 128 = search rules in
+    simp length-take (omega (arith, c.command_size-size.ensures, length-take c.args.server.turn.len c.args.server.line))
 
 pub returns : goal.returns
-returns c =
-    let at-command-size = c in
-    let start = at-command-size in
-    rw (← take_cut start.args.server.turn.len start.args.server.line, ← at-command-size.command_size-size.ensures) c.put_text.ensures
+returns c = rw (← take_cut c.args.server.turn.len c.args.server.line, ← c.command_size-size.ensures) c.put_text.ensures

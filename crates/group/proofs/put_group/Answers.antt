@@ -13,9 +13,8 @@ loop-left-smaller c = omega (arith, c.loop-left-test.true)
 pub loop-left-preserved : goal.loop-left-preserved
 loop-left-preserved c =
     let put = c.put_byte-at.ensures in
-    let test = c in
-    let loop = test.loop-left in
-    (put_length put ∙ loop.invariant.0, put_rest (rw (group_bytes_big loop.left test.loop-left-test.true) at loop.invariant.1) put)
+    let loop = c.loop-left in
+    (put_length put ∙ loop.invariant.0, put_rest (rw (group_bytes_big loop.left c.loop-left-test.true) at loop.invariant.1) put)
 
 pub overflow_cast-left-2 : goal.overflow_cast-left-2
 overflow_cast-left-2 c = omega (arith, c.loop-left-test.false)
@@ -26,7 +25,6 @@ shape_of-out c = put_length c.put_byte.ensures ∙ c.loop-left.invariant.0
 pub returns : goal.returns
 returns c =
     let put = c.put_byte.ensures in
-    let test = c in
-    let loop = test.loop-left in
-    let q = put_same (rw (group_bytes_small loop.left test.loop-left-test.false) at loop.invariant.1) put in
+    let loop = c.loop-left in
+    let q = put_same (rw (group_bytes_small loop.left c.loop-left-test.false) at loop.invariant.1) put in
     record { next = sym q.0; bytes = sym q.1 }

@@ -25,12 +25,10 @@ returns-then-high-eq0 c = sym (at_zero _ _ _ c.if-s-at.false c.if-low-lt128.fals
 
 pub overflow_add-low : goal.overflow_add-low
 overflow_add-low c =
-    let known = c in
-    let place = known.args.at in
-    omega (arith, known.shared_slice_known-3-1.given place, known.shared_slice_known-3-1.given (place + 1))
+    let place = c.args.at in
+    omega (arith, c.shared_slice_known-3-1.given place, c.shared_slice_known-3-1.given (place + 1))
 
 pub returns-then-high-lt128 : goal.returns-then-high-lt128
 returns-then-high-lt128 c =
-    let top = c in
     c.within-then-high-lt128.ensures ∙
-    sym (at_two _ _ _ top.if-s-at.false top.if-low-lt128.false c.if-s-rest.false c.if-high-eq0.false c.if-high-lt128.true)
+    sym (at_two _ _ _ c.if-s-at.false c.if-low-lt128.false c.if-s-rest.false c.if-high-eq0.false c.if-high-lt128.true)

@@ -6,8 +6,4 @@ use Rattle.hex_text.proofs.DigitLaws.{put_digit, byte_low}
 use Rattle.hex_text.proofs.put_hex_id.Goals as goal
 
 pub returns : goal.returns
-returns c =
-    let at-put-byte = c in
-    let at-hex-char = at-put-byte in
-    let at-put-hex-byte = at-hex-char in
-    put_digit 2 _ (rw byte_low at at-put-hex-byte.put_hex_byte-at.ensures) (at-hex-char.hex_char.ensures ∙ ap hex_digit (omega arith)) at-put-byte.put_byte.ensures
+returns c = put_digit 2 _ (rw byte_low at c.put_hex_byte-at.ensures) (c.hex_char.ensures ∙ ap hex_digit (omega arith)) c.put_byte.ensures

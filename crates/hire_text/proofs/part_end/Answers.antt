@@ -10,9 +10,7 @@ pub loop-left-init : goal.loop-left-init
 loop-left-init c = left_start (number_at _ _ _ c.read_group.ensures c.in-Number.is)
 
 pub loop-left-preserved : goal.loop-left-preserved
-loop-left-preserved c =
-    let here = c in
-    left-value here.loop-left.invariant here.loop-left-test.true (step_value _ _ here.step.ensures c.in-Value.is)
+loop-left-preserved c = left-value c.loop-left.invariant c.loop-left-test.true (step_value _ _ c.step.ensures c.in-Value.is)
 
 pub returns-in-End : goal.returns-in-End
 returns-in-End c = left-past c.loop-left.invariant c.loop-left-test.true (step_end _ _ c.step.ensures c.in-End.is)

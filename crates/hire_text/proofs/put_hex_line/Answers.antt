@@ -7,8 +7,6 @@ use Rattle.hire_text.proofs.put_hex_line.Goals as goal
 pub loop-i-preserved : goal.loop-i-preserved
 loop-i-preserved c =
     let second = c.put_byte-at.ensures in
-    let pair = c in
-    let test = pair in
-    let loop = test.loop-i in
-    let first = pair.put_hex_byte-at.ensures in
-    (omega arith, put_length second ∙ put_length first ∙ loop.invariant.1, line-next _ _ loop.invariant.2 test.loop-i-test.true first (rw c.separator.ensures at second))
+    let loop = c.loop-i in
+    let first = c.put_hex_byte-at.ensures in
+    (omega arith, put_length second ∙ put_length first ∙ loop.invariant.1, line-next _ _ loop.invariant.2 c.loop-i-test.true first (rw c.separator.ensures at second))

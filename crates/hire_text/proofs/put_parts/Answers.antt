@@ -5,10 +5,9 @@ use Rattle.hire_text.proofs.put_parts.Goals as goal
 
 pub loop-start-preserved : goal.loop-start-preserved
 loop-start-preserved c =
-    let k = c in
-    let inv = k.loop-start.invariant in
+    let inv = c.loop-start.invariant in
     let line = c.put_hex_line-at.ensures in
-    (put_length line ∙ inv.0, λ parts are e. lines_next (inv.1 parts are e) k.loop-start-test.true k.part_end-end.ensures line)
+    (put_length line ∙ inv.0, λ parts are e. lines_next (inv.1 parts are e) c.loop-start-test.true c.part_end-end.ensures line)
 
 pub returns : goal.returns
 returns c = λ parts are e. let q = lines_end (c.loop-start.invariant.1 parts are e) c.loop-start-test.false in record { next = sym q.0; bytes = sym q.1 }

@@ -5,8 +5,4 @@ use Rattle.hire_text.proofs.put_refused.Goals as goal
 
 pub returns : goal.returns
 unfolding refused_line
-returns c =
-    let last = c in
-    let second = last in
-    let first = second in
-    put_then first.put-at.ensures (put_then second.put_decimal-at.ensures last.put_byte.ensures)
+returns c = put_then c.put-at.ensures (put_then c.put_decimal-at.ensures c.put_byte.ensures)

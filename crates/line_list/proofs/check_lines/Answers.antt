@@ -12,22 +12,19 @@ loop-lines-smaller c = omega (arith, c.loop-lines-test.true)
 
 pub loop-lines-preserved : goal.loop-lines-preserved
 loop-lines-preserved c =
-    let here = c in
-    let test = here.loop-lines-test.true in
-    let line = step_line _ _ here.step.ensures c.in-Line.is in
-    (omega (arith, test), sym (count_line here.loop-lines.lines _ _ _ _ _ test line) ∙ here.loop-lines.invariant.1)
+    let test = c.loop-lines-test.true in
+    let line = step_line _ _ c.step.ensures c.in-Line.is in
+    (omega (arith, test), sym (count_line c.loop-lines.lines _ _ _ _ _ test line) ∙ c.loop-lines.invariant.1)
 
 pub returns-in-End : goal.returns-in-End
 returns-in-End c =
-    let here = c in
-    let loop = here.loop-lines in
-    sym (count_end loop.lines _ _ (step_end _ _ here.step.ensures c.in-End.is)) ∙ loop.invariant.1
+    let loop = c.loop-lines in
+    sym (count_end loop.lines _ _ (step_end _ _ c.step.ensures c.in-End.is)) ∙ loop.invariant.1
 
 pub returns-in-Refused : goal.returns-in-Refused
 returns-in-Refused c =
-    let here = c in
-    let n = step_none _ _ here.step.ensures c.in-Refused.is in
-    sym (count_none here.loop-lines.lines _ _ here.loop-lines-test.true n.0 n.1) ∙ here.loop-lines.invariant.1
+    let n = step_none _ _ c.step.ensures c.in-Refused.is in
+    sym (count_none c.loop-lines.lines _ _ c.loop-lines-test.true n.0 n.1) ∙ c.loop-lines.invariant.1
 
 pub returns-then-list-cursor : goal.returns-then-list-cursor
 returns-then-list-cursor c = sym (count_end c.loop-lines.lines _ _ c.if-list-cursor.true) ∙ c.loop-lines.invariant.1

@@ -6,8 +6,4 @@ pub returns-in-Any : goal.returns-in-Any
 returns-in-Any c = rw c.in-Any.is (put_none _ _)
 
 pub returns-in-Given : goal.returns-in-Given
-returns-in-Given c =
-    let at-put-decimal = c in
-    let at-put-byte = at-put-decimal in
-    let at_count = at-put-byte in
-    rw at_count.in-Given.is (put_then at-put-byte.put_byte-at.ensures at-put-decimal.put_decimal.ensures)
+returns-in-Given c = rw c.in-Given.is (put_then c.put_byte-at.ensures c.put_decimal.ensures)

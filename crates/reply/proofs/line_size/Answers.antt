@@ -14,12 +14,11 @@ overflow_add-result c = omega (
 
 pub overflow_add-result-2 : goal.overflow_add-result-2
 overflow_add-result-2 c =
-    let start = c in
     omega (
       arith,
-      header_short start.args.spaces start.args.headers,
-      data_short start.args.spaces start.args.n start.requires,
-      ending_short start.args.linefeeds,
+      header_short c.args.spaces c.args.headers,
+      data_short c.args.spaces c.args.n c.requires,
+      ending_short c.args.linefeeds,
       c.header_size.ensures,
       c.data_size.ensures,
       c.ending_size.ensures,

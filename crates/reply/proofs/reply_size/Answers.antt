@@ -18,15 +18,12 @@ returns-then-list-eq0 c = rw c.ending_size-ending.ensures (size_none _ _ _ _ c.i
 
 pub loop-start-init : goal.loop-start-init
 loop-start-init c =
-    let start = c in
-    (omega arith, omega (arith, ending_short start.args.linefeeds, c.ending_size-ending.ensures), rw c.ending_size-ending.ensures (size_start _ _ _ _ _ c.if-list-eq0.false refl))
+    (omega arith, omega (arith, ending_short c.args.linefeeds, c.ending_size-ending.ensures), rw c.ending_size-ending.ensures (size_start _ _ _ _ _ c.if-list-eq0.false refl))
 
 pub returns-then-lines-eq64 : goal.returns-then-lines-eq64
 returns-then-lines-eq64 c =
-    let at-step = c in
-    let head = at-step in
-    let w = step_line _ _ at-step.step.ensures c.in-Line.is in
-    sym (size_full _ _ _ _ _ _ _ _ _ _ w c.if-lines-eq64.true) ∙ head.loop-start.invariant.2
+    let w = step_line _ _ c.step.ensures c.in-Line.is in
+    sym (size_full _ _ _ _ _ _ _ _ _ _ w c.if-lines-eq64.true) ∙ c.loop-start.invariant.2
 
 pub overflow_sub-end : goal.overflow_sub-end
 overflow_sub-end c = let w = step_line _ _ c.step.ensures c.in-Line.is in omega arith
@@ -36,12 +33,9 @@ line_size-size-requires c = let w = step_line _ _ c.step.ensures c.in-Line.is in
 
 pub overflow_add-size-in-Line : goal.overflow_add-size-in-Line
 overflow_add-size-in-Line c =
-    let at-start = c in
-    let at-step = at-start in
-    let start = at-step in
     omega (
       arith,
-      size_short start.args.linefeeds start.args.spaces start.args.headers _ _ _ _ _ _ (step_line _ _ at-step.step.ensures at-start.in-Line.is)
+      size_short c.args.linefeeds c.args.spaces c.args.headers _ _ _ _ _ _ (step_line _ _ c.step.ensures c.in-Line.is)
           c.line_size-size.ensures,
     )
 
@@ -64,16 +58,12 @@ loop-start-preserved c =
 
 pub returns-in-End : goal.returns-in-End
 returns-in-End c =
-    let head = c in
-    let start = head in
-    sym (size_end start.args.linefeeds start.args.spaces start.args.headers _ head.loop-start.size head.loop-start.lines _
+    sym (size_end c.args.linefeeds c.args.spaces c.args.headers _ c.loop-start.size c.loop-start.lines _
     (step_end _ _ c.step.ensures c.in-End.is)) ∙
-    head.loop-start.invariant.2
+    c.loop-start.invariant.2
 
 pub returns-in-Refused : goal.returns-in-Refused
 returns-in-Refused c =
-    let head = c in
-    let start = head in
     let n = step_none _ _ c.step.ensures c.in-Refused.is in
-    sym (size_bad start.args.linefeeds start.args.spaces start.args.headers _ head.loop-start.size head.loop-start.lines _ n.0 n.1) ∙
-    head.loop-start.invariant.2
+    sym (size_bad c.args.linefeeds c.args.spaces c.args.headers _ c.loop-start.size c.loop-start.lines _ n.0 n.1) ∙
+    c.loop-start.invariant.2

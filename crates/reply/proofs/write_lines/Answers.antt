@@ -19,32 +19,23 @@ put_line_text-at-requires c =
 
 pub loop-ecu-smaller : goal.loop-ecu-smaller
 loop-ecu-smaller c =
-    let at-ecu = c in
-    let at-step = at-ecu in
-    let w = step_line _ _ at-step.step.ensures at-ecu.in-Line.is in
+    let w = step_line _ _ c.step.ensures c.in-Line.is in
     omega arith
 
 pub loop-ecu-preserved : goal.loop-ecu-preserved
-loop-ecu-preserved c =
-    let at-put-line-text = c in
-    let at-ecu = at-put-line-text in
-    let at-step = at-ecu in
-    let head = at-step in (
-      put_length c.put_line_ending-at.ensures ∙ put_length at-put-line-text.put_line_text-at.ensures ∙ head.loop-ecu.invariant.0,
-      λ ls rest q.
-          left-next _ _ _ _ _ (head.loop-ecu.invariant.1 ls rest q) _ _ _ (step_line _ _ at-step.step.ensures at-ecu.in-Line.is) at-put-line-text.put_line_text-at.ensures
-          c.put_line_ending-at.ensures,
-    )
+loop-ecu-preserved c = (
+  put_length c.put_line_ending-at.ensures ∙ put_length c.put_line_text-at.ensures ∙ c.loop-ecu.invariant.0,
+  λ ls rest q.
+      left-next _ _ _ _ _ (c.loop-ecu.invariant.1 ls rest q) _ _ _ (step_line _ _ c.step.ensures c.in-Line.is) c.put_line_text-at.ensures
+      c.put_line_ending-at.ensures,
+)
 
 pub shape_of-out-in-End : goal.shape_of-out-in-End
 shape_of-out-in-End c = put_length c.put_prompt.ensures ∙ c.loop-ecu.invariant.0
 
 pub returns-in-End : goal.returns-in-End
 returns-in-End c =
-    let at-enum-told = c in
-    let at-step = at-enum-told in
-    let head = at-step in
-    λ ls rest q. let e = left_end _ _ _ _ _ (head.loop-ecu.invariant.1 ls rest q) (step_end _ _ at-step.step.ensures at-enum-told.in-End.is)
+    λ ls rest q. let e = left_end _ _ _ _ _ (c.loop-ecu.invariant.1 ls rest q) (step_end _ _ c.step.ensures c.in-End.is)
     c.put_prompt.ensures in record { next = e.0; bytes = e.1 }
 
 pub shape_of-out-in-Refused : goal.shape_of-out-in-Refused
@@ -52,16 +43,7 @@ shape_of-out-in-Refused c = c.loop-ecu.invariant.0
 
 pub returns-in-Refused : goal.returns-in-Refused
 returns-in-Refused c =
-    let head = c in
-    λ ls rest q. let n = step_none _ _ c.step.ensures c.in-Refused.is in absurd (left_bad _ _ _ _ _ (head.loop-ecu.invariant.1 ls rest q) n.0 n.1)
-
--- LEFT
--- -- NO GOAL for slice-bounds-put-line-text-start
--- part-put-line-text-start c = let w = step_line _ _ c.before.before.before.before.step.ensures c.before.before.ecu.given.1 in omega arith
-
--- LEFT
--- -- NO GOAL for slice-bounds-put-line-text-end
--- part-put-line-text-end c = let w = step_line _ _ c.before.before.before.before.step.ensures c.before.before.ecu.given.1 in omega arith
+    λ ls rest q. let n = step_none _ _ c.step.ensures c.in-Refused.is in absurd (left_bad _ _ _ _ _ (c.loop-ecu.invariant.1 ls rest q) n.0 n.1)
 
 pub slice_bounds-put_line_text-start : goal.slice_bounds-put_line_text-start
 slice_bounds-put_line_text-start c = let w = step_line _ _ c.step.ensures c.in-Line.is in omega arith

@@ -5,41 +5,27 @@ use Rattle.reply.proofs.write_reply.Goals as goal
 
 pub returns-then-out-size : goal.returns-then-out-size
 returns-then-out-size c =
-    let sized = c in
-    let call = sized in
-    let args = call.args in
-    answer_small _ _ _ args.list.now args.out.now call.reply_size.ensures sized.in-Is.is (omega (arith, c.if-out-size.true))
+    let args = c.args in
+    answer_small _ _ _ args.list.now args.out.now c.reply_size.ensures c.in-Is.is (omega (arith, c.if-out-size.true))
 
 pub write_lines-requires : goal.write_lines-requires
 write_lines-requires c =
-    let fits = c in
-    let sized = fits in
-    let call = sized in
-    let args = call.args in
-    answer_room _ _ _ args.list.now args.out.now call.reply_size.ensures sized.in-Is.is (omega (arith, fits.if-out-size.false)) (omega (arith, c.if-list-gt0.true))
+    let args = c.args in
+    answer_room _ _ _ args.list.now args.out.now c.reply_size.ensures c.in-Is.is (omega (arith, c.if-out-size.false)) (omega (arith, c.if-list-gt0.true))
 
 pub returns-then-list-gt0 : goal.returns-then-list-gt0
 returns-then-list-gt0 c =
-    let wrote = c in
-    let fits = wrote in
-    let sized = fits in
-    let call = sized in
-    let args = call.args in
-    answer_some _ _ _ args.list.now args.out.now call.reply_size.ensures sized.in-Is.is (omega (arith, fits.if-out-size.false)) (omega (arith, wrote.if-list-gt0.true))
-    wrote.write_lines.ensures
+    let args = c.args in
+    answer_some _ _ _ args.list.now args.out.now c.reply_size.ensures c.in-Is.is (omega (arith, c.if-out-size.false)) (omega (arith, c.if-list-gt0.true))
+    c.write_lines.ensures
 
 pub returns-in-Refused : goal.returns-in-Refused
 returns-in-Refused c =
-    let call = c in
-    let args = call.args in
-    answer_refused _ _ _ args.list.now args.out.now call.reply_size.ensures c.in-Refused.is
+    let args = c.args in
+    answer_refused _ _ _ args.list.now args.out.now c.reply_size.ensures c.in-Refused.is
 
 pub returns-else-list-gt0 : goal.returns-else-list-gt0
 returns-else-list-gt0 c =
-    let wrote = c in
-    let fits = wrote in
-    let sized = fits in
-    let call = sized in
-    let args = call.args in
-    answer_none _ _ _ args.list.now args.out.now call.reply_size.ensures sized.in-Is.is (omega (arith, fits.if-out-size.false)) (omega (arith, wrote.if-list-gt0.false))
-    wrote.put_text_reply.ensures
+    let args = c.args in
+    answer_none _ _ _ args.list.now args.out.now c.reply_size.ensures c.in-Is.is (omega (arith, c.if-out-size.false)) (omega (arith, c.if-list-gt0.false))
+    c.put_text_reply.ensures

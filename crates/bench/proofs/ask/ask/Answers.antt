@@ -7,19 +7,14 @@ use Rattle.bench.proofs.ask.ask.Goals as goal
 
 pub round-first-requires : goal.round-first-requires
 round-first-requires c =
-    let k = c in
-    let s = k in
-    let says = start_says (client s.args.bench.client) s.args.pids.now s.args.count in
-    let few = start_fits (client s.args.bench.client) s.args.count s.args.pids.now in (
-      start_inside says k.start-begun.result _ _ (search rules) few k.start-begun.ensures,
-      (start_size says k.start-begun.result _ _ (search rules) few k.start-begun.ensures, s.requires.1),
+    let says = start_says (client c.args.bench.client) c.args.pids.now c.args.count in
+    let few = start_fits (client c.args.bench.client) c.args.count c.args.pids.now in (
+      start_inside says c.start-begun.result _ _ (search rules) few c.start-begun.ensures,
+      (start_size says c.start-begun.result _ _ (search rules) few c.start-begun.ensures, c.requires.1),
     )
 
 pub returns : goal.returns
 returns c =
-    let o = c in
-    let f = o in
-    let k = f in
-    let a = k.args in
-    ask_does (start_says (client a.bench.client) a.pids.now a.count) k.start-begun.result _ _ (search rules)
-    (start_fits (client a.bench.client) a.count a.pids.now) k.start-begun.ensures a.bench _ _ _ _ _ _ _ _ _ f.round-first.ensures o.onward.ensures
+    let a = c.args in
+    ask_does (start_says (client a.bench.client) a.pids.now a.count) c.start-begun.result _ _ (search rules)
+    (start_fits (client a.bench.client) a.count a.pids.now) c.start-begun.ensures a.bench _ _ _ _ _ _ _ _ _ c.round-first.ensures c.onward.ensures

@@ -8,7 +8,4 @@ onward-requires c = let first = c.reset-first.ensures [] in (first.inside, first
 
 pub returns : goal.returns
 returns c =
-    let o = c in
-    let f = o in
-    let s = f in
-    initialised_does s.args.repeat f.reset-first.result o.onward.result _ _ _ s.args.lengths.now _ _ _ (f.reset-first.ensures s.args.lengths.now) o.onward.ensures
+    initialised_does c.args.repeat c.reset-first.result c.onward.result _ _ _ c.args.lengths.now _ _ _ (c.reset-first.ensures c.args.lengths.now) c.onward.ensures

@@ -14,15 +14,13 @@ loop-next-init c = (omega (arith, c.new-cursor.ensures), omega (arith, c.new-cur
 
 pub loop-next-smaller : goal.loop-next-smaller
 loop-next-smaller c =
-    let here = c in
-    let (q, w) = step_query _ _ (all_from (λ b. b < 256) c.args.script.now (λ i h. omega (arith, c.type_inv.script i))) here.step.ensures c.in-Query.is in
+    let (q, w) = step_query _ _ (all_from (λ b. b < 256) c.args.script.now (λ i h. omega (arith, c.type_inv.script i))) c.step.ensures c.in-Query.is in
     omega (arith, w.here.after, w.here.inside)
 
 pub loop-next-preserved : goal.loop-next-preserved
 loop-next-preserved c =
-    let here = c in
-    let loop = here.loop-next in
-    let (q, w) = step_query _ _ (all_from (λ b. b < 256) c.args.script.now (λ i h. omega (arith, c.type_inv.script i))) here.step.ensures c.in-Query.is in
+    let loop = c.loop-next in
+    let (q, w) = step_query _ _ (all_from (λ b. b < 256) c.args.script.now (λ i h. omega (arith, c.type_inv.script i))) c.step.ensures c.in-Query.is in
     (omega (arith, loop.invariant.0, w.here.after), w.here.inside, sym (count_query loop.queries _ _ q _ w.here) ∙ loop.invariant.2)
 
 pub returns-in-End : goal.returns-in-End
@@ -30,6 +28,5 @@ returns-in-End c = sym (count_end c.loop-next.queries _ _ (step_end _ _ c.step.e
 
 pub returns-in-Refused : goal.returns-in-Refused
 returns-in-Refused c =
-    let here = c in
-    let n = step_none _ _ here.step.ensures c.in-Refused.is in
-    sym (count_none here.loop-next.queries _ _ n.0 n.1) ∙ here.loop-next.invariant.2
+    let n = step_none _ _ c.step.ensures c.in-Refused.is in
+    sym (count_none c.loop-next.queries _ _ n.0 n.1) ∙ c.loop-next.invariant.2

@@ -13,8 +13,7 @@ returns-in_default c = sym (at_no_ecu _ _ c.if-list-at.false (none_at 4096 _ _ c
 
 pub returns-in_default-read_group : goal.returns-in_default-read_group
 returns-in_default-read_group c =
-    let ecu = c in
-    sym (at_no_size _ _ _ _ (number_at 4096 _ _ ecu.read_group.ensures ecu.in-Number.is)
+    sym (at_no_size _ _ _ _ (number_at 4096 _ _ c.read_group.ensures c.in-Number.is)
     (none_at 255 _ _ c.read_group-2.ensures c.in_default-read_group.is))
 
 pub overflow_sub-list : goal.overflow_sub-list
@@ -22,19 +21,13 @@ overflow_sub-list c = omega (arith, (number_at 255 _ _ c.read_group-2.ensures c.
 
 pub returns-then-list-start : goal.returns-then-list-start
 returns-then-list-start c =
-    let size = c in
-    let ecu = size in
-    sym (at_no_data _ _ _ _ (number_at 4096 _ _ ecu.read_group.ensures ecu.in-Number.is) _ _
-    (number_at 255 _ _ size.read_group-2.ensures size.in-Number-read_group.is) c.if-list-start.true)
+    sym (at_no_data _ _ _ _ (number_at 4096 _ _ c.read_group.ensures c.in-Number.is) _ _
+    (number_at 255 _ _ c.read_group-2.ensures c.in-Number-read_group.is) c.if-list-start.true)
 
 pub overflow_cast-result : goal.overflow_cast-result
-overflow_cast-result c =
-    let ecu = c in
-    omega (arith, (number_at 4096 _ _ ecu.read_group.ensures ecu.in-Number.is).within)
+overflow_cast-result c = omega (arith, (number_at 4096 _ _ c.read_group.ensures c.in-Number.is).within)
 
 pub returns : goal.returns
 returns c =
-    let size = c in
-    let ecu = size in
-    sym (at_data _ _ _ _ (number_at 4096 _ _ ecu.read_group.ensures ecu.in-Number.is) _ _
-    (number_at 255 _ _ size.read_group-2.ensures size.in-Number-read_group.is) c.if-list-start.false)
+    sym (at_data _ _ _ _ (number_at 4096 _ _ c.read_group.ensures c.in-Number.is) _ _
+    (number_at 255 _ _ c.read_group-2.ensures c.in-Number-read_group.is) c.if-list-start.false)
