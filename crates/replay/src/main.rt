@@ -4,11 +4,10 @@
 // text.
 #![tactic(auto)]
 
-ghost use Rattle.std.specs.Prelude.{◌≡◌, ◌+◌, ◌≤◌, ◌<◌, IfOk, length};
+ghost use Rattle.std.specs.Prelude.{◌≡◌, ◌+◌, ◌≤◌, ◌<◌, length};
 ghost use Rattle.replay.specs.Compare.{agreeing, judged, tallied, Within};
 
 use reading::read_input;
-use std::io;
 use std::io::Write;
 
 // Where an entry's texts start, each ending where the next starts, and where the next entry does.
@@ -204,41 +203,36 @@ fn replay(
 }
 
 // What is said of the cases under a heading.
-fn print_tally<W: Write>(to: &mut W, tally: Tally) -> io::Result<()> {
+fn print_tally<W: Write>(to: &mut W, tally: Tally) {
     let cases = tally.cases;
     let first = tally.first;
     let place = tally.place;
     if first == 0 {
-        return writeln!(to, "{cases} cases, no difference");
+        let _ = writeln!(to, "{cases} cases, no difference");
+        return;
     }
-    writeln!(
+    let _ = writeln!(
         to,
         "{cases} cases, case {first} differs at byte {place} of its log"
-    )
+    );
 }
 
 // A heading: what stood under the one before it, if there was one, is said first.
-fn head<W: Write>(
-    to: &mut W,
-    list: &[u8],
-    entry: Entry,
-    before: Tally,
-    at: usize,
-) -> io::Result<Tally>
+fn head<W: Write>(to: &mut W, list: &[u8], entry: Entry, before: Tally, at: usize) -> Tally
     requires { Within at entry (length list.now) }
-    ensures { IfOk result (λ t. t.cases ≡ 0) }
+    ensures { result.cases ≡ 0 }
 {
     if at != 0 {
-        print_tally(to, before)?;
+        print_tally(to, before);
     }
     let start = entry.stored;
     let end = entry.next;
-    to.write_all(&list[start..end])?;
-    to.write_all(b": ")?;
-    Ok(no_cases())
+    let _ = to.write_all(&list[start..end]);
+    let _ = to.write_all(b": ");
+    no_cases()
 }
 
-fn main(rt: HostRuntime) -> io::Result<()> {
+fn main(rt: HostRuntime) {
     let mut to = rt.stdout();
     let mut list = [0u8; 262144];
     let n = read_input(&mut rt.stdin(), &mut list).size;
@@ -250,12 +244,12 @@ fn main(rt: HostRuntime) -> io::Result<()> {
     while 9 <= n - at {
         let entry = read_entry(&list[..n], at);
         if entry.kind == 0 {
-            under = head(&mut to, &list[..n], entry, under, at)?;
+            under = head(&mut to, &list[..n], entry, under, at);
         } else {
             let verdict = replay(&list[..n], entry, at, &mut store, &mut out, &mut log);
             under = add_case(under, verdict);
         }
         at = entry.next;
     }
-    print_tally(&mut to, under)
+    print_tally(&mut to, under);
 }
