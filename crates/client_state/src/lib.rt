@@ -20,11 +20,11 @@ pub struct ClientState {
     pub last_len: usize,
 }
 
-impl ClientState {
-    // Fresh settings, as the Rust's `default`.
-    pub fn default() -> ClientState
-        ensures { settings result ≡ fresh }
-    {
+impl Default for ClientState {
+    ghost is_default = { λ state. settings state ≡ fresh };
+
+    // Fresh settings.
+    fn default() -> ClientState {
         ClientState {
             echo_enabled: true,
             linefeeds_enabled: true,
@@ -34,16 +34,14 @@ impl ClientState {
             last_len: 0,
         }
     }
+}
 
+impl ClientState {
     // How many bytes of last_obd_command are the last command, whatever last_len holds.
     pub fn last_size(self) -> usize
         ensures { result ≡ length (settings self).last }
     {
-        let n = self.last_len;
-        if n < 128 {
-            return n;
-        }
-        128
+        self.last_len.min(128)
     }
 
     // The command becomes the last one.

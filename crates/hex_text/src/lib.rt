@@ -5,57 +5,36 @@ ghost use Rattle.std.specs.Prelude.{◌≡◌, [], ◌∷◌, ◌%◌};
 ghost use Rattle.wire.specs.Put.{Put};
 ghost use Rattle.hex_text.specs.Read.{digit, hex_number};
 ghost use Rattle.hex_text.specs.Digits.{hex_digit, hex_digits, hex_byte};
-ghost use Rattle.hex_text.specs.Answers.{digit_of, hex_of};
+ghost use Rattle.wire.specs.Answer.{number_of};
 
-#[derive(Clone, Copy)]
-pub enum HexDigit {
-    Digit(u8),
-    Bad,
-}
-
-// The number of a pair or an id.
-#[derive(Clone, Copy)]
-pub enum HexNumber {
-    Number(u16),
-    Bad,
-}
-
-// 0 to 9, A to F or a to f.
-pub fn hex_digit(c: u8) -> HexDigit
-    ensures { digit_of result ≡ digit c }
+// The number of a digit, 0 to 9, A to F or a to f; none for a bad one.
+pub fn hex_digit(c: u8) -> Option<u8>
+    ensures { number_of result ≡ digit c }
 {
     match c {
-        b'0'..=b'9' => HexDigit::Digit(c - 48),
-        b'A'..=b'F' => HexDigit::Digit(c - 55),
-        b'a'..=b'f' => HexDigit::Digit(c - 87),
-        _ => HexDigit::Bad,
+        b'0'..=b'9' => Some(c - 48),
+        b'A'..=b'F' => Some(c - 55),
+        b'a'..=b'f' => Some(c - 87),
+        _ => None,
     }
 }
 
-// Two characters as a number, which a byte holds.
-pub fn hex_pair(a: u8, b: u8) -> HexNumber
-    ensures { hex_of result ≡ hex_number (a ∷ b ∷ []) }
+// The byte that two characters are.
+pub fn hex_pair(a: u8, b: u8) -> Option<u8>
+    ensures { number_of result ≡ hex_number (a ∷ b ∷ []) }
 {
-    let HexDigit::Digit(high) = hex_digit(a) else {
-        return HexNumber::Bad;
-    };
-    let HexDigit::Digit(low) = hex_digit(b) else {
-        return HexNumber::Bad;
-    };
-    HexNumber::Number(16 * (high as u16) + (low as u16))
+    let high = hex_digit(a)?;
+    let low = hex_digit(b)?;
+    Some(16 * high + low)
 }
 
 // Three characters as an id: a pair and one digit more.
-pub fn hex_id(a: u8, b: u8, c: u8) -> HexNumber
-    ensures { hex_of result ≡ hex_number (a ∷ b ∷ c ∷ []) }
+pub fn hex_id(a: u8, b: u8, c: u8) -> Option<u16>
+    ensures { number_of result ≡ hex_number (a ∷ b ∷ c ∷ []) }
 {
-    let HexNumber::Number(high) = hex_pair(a, b) else {
-        return HexNumber::Bad;
-    };
-    let HexDigit::Digit(low) = hex_digit(c) else {
-        return HexNumber::Bad;
-    };
-    HexNumber::Number(16 * high + (low as u16))
+    let high = hex_pair(a, b)?;
+    let low = hex_digit(c)?;
+    Some(16 * u16::from(high) + u16::from(low))
 }
 
 // The capital digit of a number's low half.

@@ -3,8 +3,6 @@ use Rattle.std.specs.Prelude.{Bool, cond, ◌||◌, List, [], ◌∷◌, ℕ, ze
 use Rattle.std.proofs.Math.Option
 use Rattle.std.proofs.Math.Option.{Option, none, some}
 use Rattle.pid.specs.J1979.{j1979}
-use Rattle.pid.specs.declared.DataLength.{DataLength}
-use Rattle.pid.specs.declared.DataLength.TheVariants.{Known, Unknown}
 
 -- the mark of an unknown length: no byte count reaches it
 abbrev pub unknown : ℕ
@@ -26,11 +24,6 @@ mode01_lengths = entries (λ p. Option.get_or (j1979 p) unknown) 0 256
 -- the length of a PID in a table, which has an entry for every PID
 abbrev pub length_in : List ℕ → ℕ → Option ℕ
 length_in lengths p = entry_length (get_or lengths p 0)
-
--- the cases of DataLength
-abbrev pub data_length : DataLength → Option ℕ
-data_length (Known n) = some n
-data_length Unknown = none
 
 -- "105 entries are known: 00 to 65, 80, A0, C0": whether a PID is one of these
 abbrev pub listed : ℕ → Bool

@@ -2,7 +2,8 @@
 #![tactic(auto)]
 
 ghost use Rattle.std.specs.Prelude.{◌≡◌};
-ghost use Rattle.pid.specs.Lengths.{mode01_lengths, length_in, data_length};
+ghost use Rattle.wire.specs.Answer.{number_of};
+ghost use Rattle.pid.specs.Lengths.{mode01_lengths, length_in};
 
 // A PID of mode 01.
 pub type Pid = u8;
@@ -59,13 +60,6 @@ pub const MODE01_PID_DATA_LENGTHS: PidDataLengths = [
     UNKNOWN, UNKNOWN, UNKNOWN, UNKNOWN, UNKNOWN, UNKNOWN,
 ];
 
-// How many data bytes follow a PID.
-#[derive(Clone, Copy)]
-pub enum DataLength {
-    Known(u8),
-    Unknown,
-}
-
 // The constant as a value: the table that a session starts with.
 pub fn mode01_pid_data_lengths() -> PidDataLengths
     ensures { result ≡ mode01_lengths }
@@ -73,14 +67,9 @@ pub fn mode01_pid_data_lengths() -> PidDataLengths
     MODE01_PID_DATA_LENGTHS
 }
 
-// How many data bytes follow a PID, by a table in which lengths may have been learned.
-pub fn data_length(lengths: &PidDataLengths, pid: Pid) -> DataLength
-    ensures { data_length result ≡ length_in lengths.now pid }
+// How many data bytes follow a PID, where it is known, by a table in which lengths may have been learned.
+pub fn data_length(lengths: &PidDataLengths, pid: Pid) -> Option<u8>
+    ensures { number_of result ≡ length_in lengths.now pid }
 {
-    let entry = lengths[pid as usize];
-    if entry < UNKNOWN {
-        DataLength::Known(entry as u8)
-    } else {
-        DataLength::Unknown
-    }
+    u8::try_from(lengths[usize::from(pid)]).ok()
 }

@@ -1,12 +1,12 @@
 -- Document 01, "Which form goes where": "Where an answer is an enum, a definition gives this paper's number and values for each of its cases."
--- `number` gives the number of each refusal, `count_answer` the cases of Count; any other enum that a call answers has a definition beside the rule that it answers.
--- Contracts go through these.
--- An enum whose answer can have a number of document 01 means an Answer; one that only says whether there is a value means an Option.
-use Rattle.std.specs.Prelude.{Bool, cond, List, [], ◌∷◌, ℕ}
+-- `number` gives the number of each refusal, `answer_as` the cases of a result that may be refused; what else a call answers has a definition beside the rule that it
+-- answers. Contracts go through these.
+-- A `Result` with a `Refusal` means an Answer, and an `Option` an Option.
+use Rattle.std.specs.Prelude.{Bool, cond, List, [], ◌∷◌, ℕ, Result, Ok, Err}
+use Rattle.std.specs.Prelude as rust
+use Rattle.std.proofs.Math.Option.{Option, none, some}
 use Rattle.wire.specs.declared.Refusal.{Refusal}
 use Rattle.wire.specs.declared.Refusal.TheVariants.{OutOfTurn, PidCount, TooLong, NotAscii, Malformed, SmallBuffer, Disconnected, ReplyTooLong, ReplyNotAscii, LineFull, ByteNotAscii}
-use Rattle.wire.specs.declared.Count.{Count}
-use Rattle.wire.specs.declared.Count.TheVariants.{Is, Refused}
 
 -- What a call answers: its result, or a number of document 01.
 pub data Answer (A : Type 0) : Type 0 where
@@ -32,10 +32,19 @@ number ReplyNotAscii = 9
 number LineFull = 10
 number ByteNotAscii = 11
 
--- the cases of Count
-abbrev pub count_answer : Count → Answer ℕ
-count_answer (Is n) = result n
-count_answer (Refused r) = refused (number r)
+-- the cases of a result that may be refused
+abbrev pub answer_as : {A B : Type 0} → (A → B) → Result A Refusal → Answer B
+answer_as say (Ok a) = result (say a)
+answer_as say (Err r) = refused (number r)
+
+-- the same of one that says how many
+abbrev pub count_answer : Result ℕ Refusal → Answer ℕ
+count_answer r = answer_as (λ n. n) r
+
+-- the cases of an answer that says whether there is a number
+abbrev pub number_of : rust.Option ℕ → Option ℕ
+number_of (rust.Some n) = some n
+number_of rust.None = none
 
 -- "The first that applies": the number of the first row whose test is met, and with none what is said.
 unfoldable pub unless : {X : Type 0} → List (Bool × ℕ) → (ℕ → X) → X → X

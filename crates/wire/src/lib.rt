@@ -8,7 +8,7 @@ ghost use Rattle.wire.specs.Text.{same, begins, has, high, is_space, raised};
 ghost use Rattle.std.specs.Prelude.{[], ◌∷◌, min, ◌≡◌};
 
 // Why a call gives no result: a case for each number of document 01, in their order.
-#[derive(Clone, Copy)]
+#[derive(Clone, Copy, PartialEq, Eq, Debug)]
 pub enum Refusal {
     // 1: it is not this call's turn.
     OutOfTurn,
@@ -34,36 +34,24 @@ pub enum Refusal {
     ByteNotAscii,
 }
 
-// Whether a call is refused, found out before it does anything.
-#[derive(Clone, Copy)]
-pub enum Verdict {
-    Accepted,
-    Refused(Refusal),
-}
-
-// How many, or why a call does not tell: so many lines or bytes, or the position after those that were written.
-#[derive(Clone, Copy)]
-pub enum Count {
-    Is(usize),
-    Refused(Refusal),
-}
-
 // Document 01's number of a refusal.
-pub fn number(refusal: Refusal) -> u8
-    ensures { result ≡ number refusal }
-{
-    match refusal {
-        Refusal::OutOfTurn => 1,
-        Refusal::PidCount => 2,
-        Refusal::TooLong => 3,
-        Refusal::NotAscii => 4,
-        Refusal::Malformed => 5,
-        Refusal::SmallBuffer => 6,
-        Refusal::Disconnected => 7,
-        Refusal::ReplyTooLong => 8,
-        Refusal::ReplyNotAscii => 9,
-        Refusal::LineFull => 10,
-        Refusal::ByteNotAscii => 11,
+impl From<Refusal> for u8 {
+    ghost from_gives = { λ refusal n. n ≡ number refusal };
+
+    fn from(refusal: Refusal) -> u8 {
+        match refusal {
+            Refusal::OutOfTurn => 1,
+            Refusal::PidCount => 2,
+            Refusal::TooLong => 3,
+            Refusal::NotAscii => 4,
+            Refusal::Malformed => 5,
+            Refusal::SmallBuffer => 6,
+            Refusal::Disconnected => 7,
+            Refusal::ReplyTooLong => 8,
+            Refusal::ReplyNotAscii => 9,
+            Refusal::LineFull => 10,
+            Refusal::ByteNotAscii => 11,
+        }
     }
 }
 
