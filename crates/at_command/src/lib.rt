@@ -173,12 +173,12 @@ fn with_kind(state: ClientState, kind: AtKind) -> ClientState
     match kind {
         AtKind::Reset => ClientState::default(),
         AtKind::Set(setting, on) => with_setting(state, setting, on),
-        AtKind::Accepted => state,
-        AtKind::Identity(_) => state,
-        AtKind::Voltage => state,
-        AtKind::Protocol => state,
-        AtKind::ProtocolNumber => state,
-        AtKind::Unknown => state,
+        AtKind::Accepted
+        | AtKind::Identity(_)
+        | AtKind::Voltage
+        | AtKind::Protocol
+        | AtKind::ProtocolNumber
+        | AtKind::Unknown => state,
     }
 }
 

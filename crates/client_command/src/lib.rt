@@ -22,14 +22,7 @@ fn is_command(command: &[u8], text: &[u8]) -> bool
     if command.len() != text.len() {
         return false;
     }
-    let mut i = 0;
-    while i < text.len() {
-        if wire::raise(command[i]) != text[i] {
-            return false;
-        }
-        i += 1;
-    }
-    true
+    command.iter().zip(text).all(|(&b, &capital)| wire::raise(b) == capital)
 }
 
 // What a raw command does to framing once it is complete. One with a CR of its own does nothing.
@@ -53,34 +46,31 @@ pub fn put_command(out: &mut [u8], at: usize, command: &[u8]) -> usize
     ensures { Put out.old at (with_cr command.now) result out.new }
 {
     let at = wire::put(out, at, command);
-    let n = command.len();
-    if n == 0 {
-        return wire::put_byte(out, at, b'\r');
+    match command {
+        [.., b'\r'] => at,
+        _ => wire::put_byte(out, at, b'\r'),
     }
-    if command[n - 1] == b'\r' {
-        return at;
+}
+
+// The last command of the initialisation: ATH1 or ATH0.
+fn put_headers(out: &mut [u8], at: usize, framing: bool) -> usize
+    ensures { Put out.old at (setup_text framing 4) result out.new }
+{
+    if framing {
+        return wire::put(out, at, b"ATH1\r");
     }
-    wire::put_byte(out, at, b'\r')
+    wire::put(out, at, b"ATH0\r")
 }
 
 // The k-th command of the initialisation after ATZ, counted from 0: ATE0, ATL0, ATS0, ATSP0, and then ATH1 or ATH0.
 pub fn put_setup(out: &mut [u8], at: usize, framing: bool, k: u8) -> usize
     ensures { Put out.old at (setup_text framing k) result out.new }
 {
-    if k == 0 {
-        return wire::put(out, at, b"ATE0\r");
+    match k {
+        0 => wire::put(out, at, b"ATE0\r"),
+        1 => wire::put(out, at, b"ATL0\r"),
+        2 => wire::put(out, at, b"ATS0\r"),
+        3 => wire::put(out, at, b"ATSP0\r"),
+        _ => put_headers(out, at, framing),
     }
-    if k == 1 {
-        return wire::put(out, at, b"ATL0\r");
-    }
-    if k == 2 {
-        return wire::put(out, at, b"ATS0\r");
-    }
-    if k == 3 {
-        return wire::put(out, at, b"ATSP0\r");
-    }
-    if framing {
-        return wire::put(out, at, b"ATH1\r");
-    }
-    wire::put(out, at, b"ATH0\r")
 }

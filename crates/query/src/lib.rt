@@ -5,22 +5,13 @@ ghost use Rattle.wire.specs.Put.{Put};
 ghost use Rattle.hex_text.specs.Digits.{hex_bytes};
 ghost use Rattle.query.specs.Query.{decimal, count_text, count_of, text_of_query};
 
-// How many ECUs a query waits for, if it says so.
-#[derive(Clone, Copy)]
-pub enum EcuCount {
-    Any,
-    Given(u8),
-}
-
 // The PIDs as pairs of digits, from position at on.
 fn put_pids(out: &mut [u8], at: usize, pids: &[u8]) -> usize
     ensures { Put out.old at (hex_bytes pids.now) result out.new }
 {
     let mut at = at;
-    let mut i: usize = 0;
-    while i < pids.len() {
-        at = hex_text::put_hex_byte(out, at, pids[i]);
-        i += 1;
+    for &pid in pids {
+        at = hex_text::put_hex_byte(out, at, pid);
     }
     at
 }
@@ -42,20 +33,18 @@ pub fn put_decimal(out: &mut [u8], at: usize, n: u8) -> usize
 }
 
 // A space and the count, or nothing.
-fn put_count(out: &mut [u8], at: usize, count: EcuCount) -> usize
+fn put_count(out: &mut [u8], at: usize, count: Option<u8>) -> usize
     ensures { Put out.old at (count_text (count_of count)) result out.new }
 {
-    match count {
-        EcuCount::Any => at,
-        EcuCount::Given(n) => {
-            let at = wire::put_byte(out, at, b' ');
-            put_decimal(out, at, n)
-        }
-    }
+    let Some(n) = count else {
+        return at;
+    };
+    let at = wire::put_byte(out, at, b' ');
+    put_decimal(out, at, n)
 }
 
-// The text of a query, from position at on.
-pub fn put_query(out: &mut [u8], at: usize, pids: &[u8], count: EcuCount) -> usize
+// The text of a query, from position at on, with the number of ECUs that it waits for, if it says so.
+pub fn put_query(out: &mut [u8], at: usize, pids: &[u8], count: Option<u8>) -> usize
     ensures { Put out.old at (text_of_query pids.now (count_of count)) result out.new }
 {
     let at = wire::put(out, at, b"01");

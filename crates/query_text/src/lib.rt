@@ -7,8 +7,6 @@ ghost use Rattle.wire.specs.Text.{same};
 ghost use Rattle.query.specs.Query.{count_of, text_of_query};
 ghost use Rattle.query_text.specs.Text.{text};
 
-use query::EcuCount;
-
 // The first len of the bytes. The longest query has 18: 01, six PIDs, a space and three digits.
 #[derive(Clone, Copy)]
 pub struct QueryText {
@@ -28,7 +26,7 @@ impl QueryText {
     }
 
     // The text of a query, of which 18 bytes are kept.
-    pub fn of(pids: &[u8], count: EcuCount) -> QueryText
+    pub fn of(pids: &[u8], count: Option<u8>) -> QueryText
         ensures { text result ≡ take 18 (text_of_query pids.now (count_of count)) }
     {
         let mut bytes = [0u8; 18];
@@ -40,30 +38,20 @@ impl QueryText {
     fn size(self) -> usize
         ensures { result ≡ min self.len 18 }
     {
-        let n = self.len;
-        if n < 18 {
-            return n;
-        }
-        18
+        self.len.min(18)
     }
 
     pub fn is(self, other: QueryText) -> bool
         ensures { result ≡ same (text self) (text other) }
     {
-        let bytes = self.bytes;
-        let n = self.size();
-        let others = other.bytes;
-        let m = other.size();
-        wire::same(&bytes[..n], &others[..m])
+        wire::same(&self.bytes[..self.size()], &other.bytes[..other.size()])
     }
 
     // The text and CR, from position at on.
     pub fn put_line(self, out: &mut [u8], at: usize) -> usize
         ensures { Put out.old at (text self ++ (13 ∷ [])) result out.new }
     {
-        let bytes = self.bytes;
-        let n = self.size();
-        let at = wire::put(out, at, &bytes[..n]);
+        let at = wire::put(out, at, &self.bytes[..self.size()]);
         wire::put_byte(out, at, b'\r')
     }
 }

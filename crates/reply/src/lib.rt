@@ -13,8 +13,16 @@ ghost use Rattle.reply.specs.Reply.{ecu_id, space_if, further_hex, line_text};
 ghost use Rattle.reply.specs.Answers.{replied};
 ghost use Rattle.reply.specs.Steps.{header_size, data_size, reply_size, LinesFit};
 
-use line_list::{LineCursor, LineStep};
-use wire::{Count, Refusal};
+use line_list::LineCursor;
+use wire::Refusal;
+
+// What a reply goes by of the settings: its line endings, the spaces between its bytes, and whether a line starts with a header.
+#[derive(Clone, Copy)]
+pub struct ReplyStyle {
+    pub linefeeds: bool,
+    pub spaces: bool,
+    pub headers: bool,
+}
 
 // What follows the last line of a reply: an empty line and the prompt.
 pub fn put_prompt(out: &mut [u8], at: usize, linefeeds: bool) -> usize
@@ -54,21 +62,14 @@ fn ecu_id(ecu: u16) -> u16
 }
 
 // The header of a line, if on: its ECU, and how many bytes it has (255 at most) in two digits.
-fn put_header(
-    out: &mut [u8],
-    at: usize,
-    ecu: u16,
-    size: usize,
-    spaces: bool,
-    headers: bool,
-) -> usize
-    ensures { Put out.old at (cond headers (hex_digits 3 (ecu_id ecu) ++ (space_if spaces ++ (hex_byte size ++ space_if spaces))) []) result out.new }
+fn put_header(out: &mut [u8], at: usize, ecu: u16, size: usize, style: ReplyStyle) -> usize
+    ensures { Put out.old at (cond style.headers (hex_digits 3 (ecu_id ecu) ++ (space_if style.spaces ++ (hex_byte size ++ space_if style.spaces))) []) result out.new }
 {
-    if headers {
+    if style.headers {
         let at = hex_text::put_hex_id(out, at, ecu_id(ecu));
-        let at = put_space(out, at, spaces);
+        let at = put_space(out, at, style.spaces);
         let at = hex_text::put_hex_byte(out, at, (size % 256) as u8);
-        return put_space(out, at, spaces);
+        return put_space(out, at, style.spaces);
     }
     at
 }
@@ -110,23 +111,16 @@ fn put_joined(out: &mut [u8], at: usize, payload: &[u8]) -> usize
 }
 
 // A line, without its ending, where there is room.
-fn put_line_text(
-    out: &mut [u8],
-    at: usize,
-    ecu: u16,
-    payload: &[u8],
-    spaces: bool,
-    headers: bool,
-) -> usize
-    requires { at + length (line_text spaces headers (line ecu payload.now)) ≤ length out.old }
-    ensures { Put out.old at (line_text spaces headers (line ecu payload.now)) result out.new }
+fn put_line_text(out: &mut [u8], at: usize, ecu: u16, payload: &[u8], style: ReplyStyle) -> usize
+    requires { at + length (line_text style.spaces style.headers (line ecu payload.now)) ≤ length out.old }
+    ensures { Put out.old at (line_text style.spaces style.headers (line ecu payload.now)) result out.new }
 {
-    let start = put_header(out, at, ecu, payload.len(), spaces, headers);
-    if payload.len() == 0 {
+    let start = put_header(out, at, ecu, payload.len(), style);
+    if payload.is_empty() {
         return start;
     }
     let next = hex_text::put_hex_byte(out, start, payload[0]);
-    if spaces {
+    if style.spaces {
         return put_spaced(out, next, payload);
     }
     put_joined(out, next, payload)
@@ -142,16 +136,14 @@ fn ending_size(linefeeds: bool) -> usize
 }
 
 // A header has five digits and, if spaces are on, two spaces.
-fn header_size(spaces: bool, headers: bool) -> usize
-    ensures { result ≡ header_size spaces headers }
+fn header_size(style: ReplyStyle) -> usize
+    ensures { result ≡ header_size style.spaces style.headers }
 {
-    if headers {
-        if spaces {
-            return 7;
-        }
-        return 5;
+    match (style.headers, style.spaces) {
+        (true, true) => 7,
+        (true, false) => 5,
+        (false, _) => 0,
     }
-    0
 }
 
 // A byte has two digits and, if spaces are on, all but the last have a space.
@@ -169,91 +161,67 @@ fn data_size(n: usize, spaces: bool) -> usize
 }
 
 // How long a line of n bytes is with its ending.
-fn line_size(n: usize, linefeeds: bool, spaces: bool, headers: bool) -> usize
+fn line_size(n: usize, style: ReplyStyle) -> usize
     requires { n ≤ 255 }
-    ensures { result ≡ header_size spaces headers + data_size spaces n + length (line_ending linefeeds) }
+    ensures { result ≡ header_size style.spaces style.headers + data_size style.spaces n + length (line_ending style.linefeeds) }
 {
-    header_size(spaces, headers) + data_size(n, spaces) + ending_size(linefeeds)
+    header_size(style) + data_size(n, style.spaces) + ending_size(style.linefeeds)
 }
 
 // How long the reply to a line list is, or 5: one walk checks the list and adds up its lines.
-fn reply_size(list: &[u8], linefeeds: bool, spaces: bool, headers: bool) -> Count
-    ensures { count_answer result ≡ reply_size linefeeds spaces headers list.now }
+fn reply_size(list: &[u8], style: ReplyStyle) -> Result<usize, Refusal>
+    ensures { count_answer result ≡ reply_size style.linefeeds style.spaces style.headers list.now }
 {
-    let ending = ending_size(linefeeds);
+    let ending = ending_size(style.linefeeds);
     // An empty line and the prompt.
     let mut size = ending + 1;
-    if list.len() == 0 {
+    if list.is_empty() {
         // `NO DATA`.
-        return Count::Is(7 + ending + size);
+        return Ok(7 + ending + size);
     }
-    let mut cursor = LineCursor { at: 0 };
-    let mut lines: usize = 0;
-    loop {
-        match cursor.step(list) {
-            LineStep::Line {
-                ecu: _,
-                start,
-                next,
-            } => {
-                if lines == 64 {
-                    return Count::Refused(Refusal::Malformed);
-                }
-                let end = next.at;
-                size = size + line_size(end - start, linefeeds, spaces, headers);
-                cursor = next;
-                lines += 1;
-            }
-            LineStep::End => return Count::Is(size),
-            LineStep::Refused(_) => return Count::Refused(Refusal::Malformed),
-        }
+    let mut cursor = LineCursor::new();
+    for _ in 0..64 {
+        let Some(line) = cursor.step(list)? else {
+            return Ok(size);
+        };
+        size += line_size(line.next.at - line.start, style);
+        cursor = line.next;
     }
+    if list.len() <= cursor.at {
+        return Ok(size);
+    }
+    Err(Refusal::Malformed)
 }
 
 // The lines of a well-formed list, then the prompt, from the start of out on, where there is room for them.
-fn write_lines(list: &[u8], linefeeds: bool, spaces: bool, headers: bool, out: &mut [u8]) -> usize
-    requires { LinesFit linefeeds spaces headers list.now out.old }
+fn write_lines(list: &[u8], style: ReplyStyle, out: &mut [u8]) -> usize
+    requires { LinesFit style.linefeeds style.spaces style.headers list.now out.old }
     ensures { (ls : List Line) (rest : List ℕ) → lines_of_list list.now ≡ got ls rest →
-        Put out.old 0 (chip_reply linefeeds (map (line_text spaces headers) ls)) result out.new }
+        Put out.old 0 (chip_reply style.linefeeds (map (line_text style.spaces style.headers) ls)) result out.new }
 {
-    let mut cursor = LineCursor { at: 0 };
+    let mut cursor = LineCursor::new();
     let mut at: usize = 0;
-    loop {
-        match cursor.step(list) {
-            LineStep::Line { ecu, start, next } => {
-                let end = next.at;
-                at = put_line_text(out, at, ecu, &list[start..end], spaces, headers);
-                at = client_state::put_line_ending(out, at, linefeeds);
-                cursor = next;
-            }
-            LineStep::End => return put_prompt(out, at, linefeeds),
-            // Not in a well-formed list.
-            LineStep::Refused(_) => return at,
-        }
+    // A well-formed list is never refused.
+    while let Ok(Some(line)) = cursor.step(list) {
+        let end = line.next.at;
+        at = put_line_text(out, at, line.ecu, &list[line.start..end], style);
+        at = client_state::put_line_ending(out, at, style.linefeeds);
+        cursor = line.next;
     }
+    put_prompt(out, at, style.linefeeds)
 }
 
 // The reply to a line list at the front of out, and how many bytes it has: 5 where it is no line list, 6 where the reply is longer than out, which is then as it
 // was.
-pub fn write_reply(
-    list: &[u8],
-    linefeeds: bool,
-    spaces: bool,
-    headers: bool,
-    out: &mut [u8],
-) -> Count
-    ensures { count_written result out.new ≡ replied linefeeds spaces headers list.now out.old }
+pub fn write_reply(list: &[u8], style: ReplyStyle, out: &mut [u8]) -> Result<usize, Refusal>
+    ensures { count_written result out.new ≡ replied style.linefeeds style.spaces style.headers list.now out.old }
 {
-    match reply_size(list, linefeeds, spaces, headers) {
-        Count::Refused(refusal) => Count::Refused(refusal),
-        Count::Is(size) => {
-            if out.len() < size {
-                return Count::Refused(Refusal::SmallBuffer);
-            }
-            if 0 < list.len() {
-                return Count::Is(write_lines(list, linefeeds, spaces, headers, out));
-            }
-            Count::Is(put_text_reply(out, 0, b"NO DATA", linefeeds))
-        }
+    let size = reply_size(list, style)?;
+    if out.len() < size {
+        return Err(Refusal::SmallBuffer);
     }
+    if list.is_empty() {
+        return Ok(put_text_reply(out, 0, b"NO DATA", style.linefeeds));
+    }
+    Ok(write_lines(list, style, out))
 }

@@ -1,12 +1,11 @@
 -- What a call on a session says, and what the host then sees of it. Document 01: "Every session call is by turn: bytes to send are written to a lent out buffer,
 -- bytes received are handed in."
-use Rattle.std.specs.Prelude.{List, [], ℕ, length}
+use Rattle.std.specs.Prelude.{List, [], ℕ, length, Result}
 use Rattle.std.proofs.lemmas.List.Edits.{sets}
-use Rattle.wire.specs.Answer.{Answer, result, refused, number}
+use Rattle.wire.specs.declared.Refusal.{Refusal}
+use Rattle.wire.specs.Answer.{Answer, result, refused, answer_as}
 use Rattle.server_session.specs.declared.Phase.{Phase}
 use Rattle.server_session.specs.declared.Phase.TheVariants as phase
-use Rattle.server_session.specs.declared.ServerAnswer.{ServerAnswer}
-use Rattle.server_session.specs.declared.ServerAnswer.TheVariants.{Reading, AtCommand, ObdCommand, Refused}
 use Rattle.server_session.specs.declared.ServerStep.{ServerStep}
 use Rattle.server_session.specs.Session.{Session, session}
 
@@ -37,12 +36,9 @@ pub record ServerServed : Type 0 where
 abbrev pub server_lent : ServerSaid → List ℕ → ServerServed
 server_lent d out = record { answer = d.answer; taken = d.taken; written = length d.text; next = d.next; out = sets out 0 d.text }
 
--- the cases of ServerAnswer
-abbrev pub server_answer : ServerAnswer → Answer Phase
-server_answer Reading = result phase.Reading
-server_answer AtCommand = result phase.AtCommand
-server_answer ObdCommand = result phase.ObdCommand
-server_answer (Refused r) = refused (number r)
+-- the cases of a step's answer
+abbrev pub server_answer : Result Phase Refusal → Answer Phase
+server_answer r = answer_as (λ p. p) r
 
 abbrev pub server_step : ServerStep → List ℕ → ServerServed
 server_step r out = record { answer = server_answer r.answer; taken = r.taken; written = r.written; next = session r.session; out = out }

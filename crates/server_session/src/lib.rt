@@ -10,16 +10,16 @@ ghost use Rattle.wire.specs.Answer.{result as answered};
 ghost use Rattle.wire.specs.Steps.{settled};
 ghost use Rattle.wire.specs.Put.{Put};
 ghost use Rattle.client_state.specs.Settings.{Settings};
-ghost use Rattle.server_session.specs.Session.{Session, session, fresh_session, is_reading};
+ghost use Rattle.server_session.specs.Session.{Session, session, fresh_session};
 ghost use Rattle.server_session.specs.Call.{server_refusing, server_answer, server_step, server_lent};
 ghost use Rattle.server_session.specs.Bytes.{canonical, command_phase, empty_line, line_end, byte_taken, byte_says, goes_on, bytes_say};
 ghost use Rattle.server_session.specs.Steps.{ByteDoes, Leaves, is_special, Shows, turn_session, Serves, RunFits, LineRunTo, Joins};
 
 use client_state::ClientState;
-use wire::{Refusal, Verdict};
+use wire::Refusal;
 
 // Who speaks next.
-#[derive(Clone, Copy)]
+#[derive(Clone, Copy, PartialEq, Eq)]
 pub enum Phase {
     // A line is read.
     Reading,
@@ -46,19 +46,9 @@ pub struct ServerSession {
 
 // What a call did.
 #[derive(Clone, Copy)]
-pub enum ServerAnswer {
-    // It was taken or is to be sent, and a line is read.
-    Reading,
-    // A command is handed out.
-    AtCommand,
-    ObdCommand,
-    // It gets a number of document 01.
-    Refused(Refusal),
-}
-
-#[derive(Clone, Copy)]
 pub struct ServerStep {
-    pub answer: ServerAnswer,
+    // Who speaks next, or the refusal.
+    pub answer: Result<Phase, Refusal>,
     // How many bytes of the input were taken.
     pub taken: usize,
     // How many bytes of out are to be sent.
@@ -78,7 +68,7 @@ struct Flags {
 // last command is to be put into the line.
 #[derive(Clone, Copy)]
 struct Did {
-    answer: ServerAnswer,
+    answer: Result<Phase, Refusal>,
     turn: Turn,
     taken: usize,
     at: usize,
@@ -93,44 +83,20 @@ struct Run {
     at: usize,
 }
 
-fn is_reading(phase: Phase) -> bool
-    ensures { result ≡ is_reading phase }
-{
-    match phase {
-        Phase::Reading => true,
-        Phase::AtCommand => false,
-        Phase::ObdCommand => false,
-    }
-}
-
 // No command is handed out, and no byte read.
 fn line_awaited() -> Turn
     ensures { result ≡ record { phase = Phase.Reading; len = 0 } }
 {
-    let phase = Phase::Reading;
-    Turn { phase, len: 0 }
-}
-
-// The answer that tells of a phase.
-fn phase_answer(phase: Phase) -> ServerAnswer
-    ensures { server_answer result ≡ answered phase }
-{
-    match phase {
-        Phase::Reading => ServerAnswer::Reading,
-        Phase::AtCommand => ServerAnswer::AtCommand,
-        Phase::ObdCommand => ServerAnswer::ObdCommand,
+    Turn {
+        phase: Phase::Reading,
+        len: 0,
     }
 }
 
-fn goes_on(answer: ServerAnswer) -> bool
+fn goes_on(answer: Result<Phase, Refusal>) -> bool
     ensures { result ≡ goes_on (server_answer answer) }
 {
-    match answer {
-        ServerAnswer::Reading => true,
-        ServerAnswer::AtCommand => false,
-        ServerAnswer::ObdCommand => false,
-        ServerAnswer::Refused(_) => false,
-    }
+    answer == Ok(Phase::Reading)
 }
 
 // Whether a byte does more than join the line.
@@ -208,23 +174,22 @@ fn command_phase(line: &[u8; 128], n: usize) -> Phase
 }
 
 // Whether a byte is refused.
-fn byte_verdict(turn: Turn, b: u8, room: usize) -> Verdict
+fn byte_verdict(turn: Turn, b: u8, room: usize) -> Result<(), Refusal>
     ensures { ((s : Session) → s.phase ≡ turn.phase → length s.line ≡ min turn.len 128 → byte_says room s b ≡ settled result (server_refusing s) (byte_taken s b)) }
 {
-    let phase = turn.phase;
-    if !is_reading(phase) {
-        return Verdict::Refused(Refusal::OutOfTurn);
+    if turn.phase != Phase::Reading {
+        return Err(Refusal::OutOfTurn);
     }
     if room < 8 {
-        return Verdict::Refused(Refusal::SmallBuffer);
+        return Err(Refusal::SmallBuffer);
     }
     if 128 <= b {
-        return Verdict::Refused(Refusal::ByteNotAscii);
+        return Err(Refusal::ByteNotAscii);
     }
     if is_full(turn.len, b) {
-        return Verdict::Refused(Refusal::LineFull);
+        return Err(Refusal::LineFull);
     }
-    Verdict::Accepted
+    Ok(())
 }
 
 // A byte is sent back where echo is on.
@@ -241,18 +206,17 @@ fn put_echo(out: &mut [u8], at: usize, echo: bool, b: u8) -> usize
 fn run_room(turn: Turn, echo: bool, left: usize, free: usize) -> usize
     ensures { RunFits turn echo left free result }
 {
-    let phase = turn.phase;
-    if is_reading(phase) {
-        if free < 8 {
-            return 0;
-        }
-        let most = wire::at_most(left, room_at(128, turn.len));
-        if echo {
-            return wire::at_most(most, free - 8);
-        }
-        return most;
+    if turn.phase != Phase::Reading {
+        return 0;
     }
-    0
+    if free < 8 {
+        return 0;
+    }
+    let most = wire::at_most(left, room_at(128, turn.len));
+    if echo {
+        return wire::at_most(most, free - 8);
+    }
+    most
 }
 
 // Lets bytes of the input from i on join the line and sends them back, up to the first special one, at most most of them.
@@ -323,7 +287,7 @@ fn end_empty(flags: Flags, out: &mut [u8], at: usize) -> Did
         let end = reply::put_text_reply(out, at, b"?", flags.linefeeds);
         let turn = line_awaited();
         return Did {
-            answer: ServerAnswer::Reading,
+            answer: Ok(Phase::Reading),
             turn,
             taken: 1,
             at: end,
@@ -335,7 +299,7 @@ fn end_empty(flags: Flags, out: &mut [u8], at: usize) -> Did
         len: flags.last,
     };
     Did {
-        answer: ServerAnswer::ObdCommand,
+        answer: Ok(Phase::ObdCommand),
         turn,
         taken: 1,
         at,
@@ -357,7 +321,7 @@ fn end_line(line: &mut [u8; 128], len: usize, flags: Flags, out: &mut [u8], at: 
     let phase = command_phase(line, n);
     let turn = Turn { phase, len: n };
     Did {
-        answer: phase_answer(phase),
+        answer: Ok(phase),
         turn,
         taken: 1,
         at,
@@ -378,12 +342,11 @@ fn take_byte(
     ensures says { ((state : Settings) → Shows state flags →
         ByteDoes (byte_says (length out.old - at) (turn_session turn state line.old) b) state line.new out.old at result out.new) }
     ensures line_after { length line.new ≡ 128 }
-    ensures refused_unchanged { ((q : Refusal) → result.answer ≡ ServerAnswer.Refused q → Leaves turn line.old result line.new) }
+    ensures refused_unchanged { ((q : Refusal) → result.answer ≡ Err q → Leaves turn line.old result line.new) }
 {
-    let verdict = byte_verdict(turn, b, room_at(out.len(), at));
-    if let Verdict::Refused(refusal) = verdict {
+    if let Err(refusal) = byte_verdict(turn, b, room_at(out.len(), at)) {
         return Did {
-            answer: ServerAnswer::Refused(refusal),
+            answer: Err(refusal),
             turn,
             taken: 0,
             at,
@@ -396,7 +359,7 @@ fn take_byte(
     }
     if b == b'\n' {
         return Did {
-            answer: ServerAnswer::Reading,
+            answer: Ok(Phase::Reading),
             turn,
             taken: 1,
             at: end,
@@ -410,7 +373,7 @@ fn take_byte(
         len: len + 1,
     };
     Did {
-        answer: ServerAnswer::Reading,
+        answer: Ok(Phase::Reading),
         turn,
         taken: 1,
         at: end,
@@ -426,7 +389,7 @@ fn take_bytes(line: &mut [u8; 128], turn: Turn, flags: Flags, input: &[u8], out:
         Serves (server_lent (bytes_say (length out.old) (turn_session turn state line.old) input.now) out.old) state line.new result
         out.new) }
     ensures line_after { length line.new ≡ 128 }
-    ensures refused_unchanged { ((q : Refusal) → result.answer ≡ ServerAnswer.Refused q → result.taken ≡ 0 → Leaves turn line.old result line.new) }
+    ensures refused_unchanged { ((q : Refusal) → result.answer ≡ Err q → result.taken ≡ 0 → Leaves turn line.old result line.new) }
 {
     let mut turn = turn;
     let mut i: usize = 0;
@@ -435,9 +398,8 @@ fn take_bytes(line: &mut [u8; 128], turn: Turn, flags: Flags, input: &[u8], out:
         let ran = read_run(line, turn, flags.echo, input, i, out, at);
         turn.len = ran.len;
         if input.len() <= ran.next {
-            let phase = turn.phase;
             return Did {
-                answer: phase_answer(phase),
+                answer: Ok(turn.phase),
                 turn,
                 taken: ran.next,
                 at: ran.at,
@@ -446,8 +408,7 @@ fn take_bytes(line: &mut [u8; 128], turn: Turn, flags: Flags, input: &[u8], out:
         }
         i = ran.next;
         let mut did = take_byte(line, turn, flags, input[i], out, ran.at);
-        let answer = did.answer;
-        if !goes_on(answer) {
+        if !goes_on(did.answer) {
             did.taken = i + did.taken;
             return did;
         }
@@ -473,34 +434,26 @@ impl ServerSession {
     pub fn command_size(self) -> usize
         ensures { result ≡ length (session self).line }
     {
-        let n = self.turn.len;
-        if n < 128 {
-            return n;
-        }
-        128
+        self.turn.len.min(128)
     }
 
     // One byte from the reader.
     pub fn byte(mut self, b: u8, out: &mut [u8]) -> ServerStep
         ensures out_after { server_step result out.new ≡ server_lent (byte_says (length out.old) (session self) b) out.old }
-        ensures refused_unchanged { ((q : Refusal) → result.answer ≡ ServerAnswer.Refused q → result.session ≡ self) }
+        ensures refused_unchanged { ((q : Refusal) → result.answer ≡ Err q → result.session ≡ self) }
     {
-        let turn = self.turn;
         let flags = read_flags(
             self.state.echo_enabled,
             self.state.linefeeds_enabled,
             self.state.last_len,
         );
-        let did = take_byte(&mut self.line, turn, flags, b, out, 0);
+        let did = take_byte(&mut self.line, self.turn, flags, b, out, 0);
         if did.repeat {
-            let last = self.state.last_obd_command;
-            self.line = last;
+            self.line = self.state.last_obd_command;
         }
-        let turn = did.turn;
-        self.turn = turn;
-        let answer = did.answer;
+        self.turn = did.turn;
         ServerStep {
-            answer,
+            answer: did.answer,
             taken: did.taken,
             written: did.at,
             session: self,
@@ -510,24 +463,20 @@ impl ServerSession {
     // Bytes from the reader, one after the other: it stops after the one that hands a command out, or before the one that gets a number.
     pub fn bytes(mut self, input: &[u8], out: &mut [u8]) -> ServerStep
         ensures out_after { server_step result out.new ≡ server_lent (bytes_say (length out.old) (session self) input.now) out.old }
-        ensures refused_unchanged { ((q : Refusal) → result.answer ≡ ServerAnswer.Refused q → result.taken ≡ 0 → result.session ≡ self) }
+        ensures refused_unchanged { ((q : Refusal) → result.answer ≡ Err q → result.taken ≡ 0 → result.session ≡ self) }
     {
-        let turn = self.turn;
         let flags = read_flags(
             self.state.echo_enabled,
             self.state.linefeeds_enabled,
             self.state.last_len,
         );
-        let did = take_bytes(&mut self.line, turn, flags, input, out);
+        let did = take_bytes(&mut self.line, self.turn, flags, input, out);
         if did.repeat {
-            let last = self.state.last_obd_command;
-            self.line = last;
+            self.line = self.state.last_obd_command;
         }
-        let turn = did.turn;
-        self.turn = turn;
-        let answer = did.answer;
+        self.turn = did.turn;
         ServerStep {
-            answer,
+            answer: did.answer,
             taken: did.taken,
             written: did.at,
             session: self,

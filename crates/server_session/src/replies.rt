@@ -8,34 +8,13 @@ ghost use Rattle.reply.specs.Shape.{chip_reply};
 ghost use Rattle.at_command.specs.Dialect.{at_kind, kind_settings, kind_lines};
 ghost use Rattle.server_session.specs.Session.{Session, session};
 ghost use Rattle.server_session.specs.Call.{server_refusing, server_step, server_lent};
-ghost use Rattle.server_session.specs.Replies.{is_at, is_obd, line_awaited, answer_says, at_answered, reply_says, reject_says};
+ghost use Rattle.server_session.specs.Replies.{line_awaited, answer_says, at_answered, reply_says, reject_says};
 
-use crate::{Phase, ServerAnswer, ServerSession, ServerStep, Turn};
+use crate::{Phase, ServerSession, ServerStep, Turn};
 use at_command::{AtHandled, AtKind};
 use client_state::ClientState;
-use wire::{Count, Refusal, Verdict};
-
-// Whether an AT command is handed out.
-fn is_at(phase: Phase) -> bool
-    ensures { result ≡ is_at phase }
-{
-    match phase {
-        Phase::Reading => false,
-        Phase::AtCommand => true,
-        Phase::ObdCommand => false,
-    }
-}
-
-// Whether an OBD command is handed out.
-fn is_obd(phase: Phase) -> bool
-    ensures { result ≡ is_obd phase }
-{
-    match phase {
-        Phase::Reading => false,
-        Phase::AtCommand => false,
-        Phase::ObdCommand => true,
-    }
-}
+use reply::ReplyStyle;
+use wire::Refusal;
 
 // How long a reply of one line is.
 fn text_reply_size(text: &[u8], linefeeds: bool) -> usize
@@ -48,51 +27,49 @@ fn text_reply_size(text: &[u8], linefeeds: bool) -> usize
 }
 
 // Whether an AT answer is refused.
-fn answer_verdict(turn: Turn, ati: &[u8], device: &[u8], room: usize) -> Verdict
+fn answer_verdict(turn: Turn, ati: &[u8], device: &[u8], room: usize) -> Result<(), Refusal>
     ensures { (s : Session) → s.phase ≡ turn.phase → answer_says room s ati.now device.now ≡
         settled result (server_refusing s) (at_answered s ati.now device.now) }
 {
-    let phase = turn.phase;
-    if !is_at(phase) {
-        return Verdict::Refused(Refusal::OutOfTurn);
+    if turn.phase != Phase::AtCommand {
+        return Err(Refusal::OutOfTurn);
     }
     if 32 < ati.len() {
-        return Verdict::Refused(Refusal::TooLong);
+        return Err(Refusal::TooLong);
     }
     if 32 < device.len() {
-        return Verdict::Refused(Refusal::TooLong);
+        return Err(Refusal::TooLong);
     }
     if wire::has_high(ati) {
-        return Verdict::Refused(Refusal::NotAscii);
+        return Err(Refusal::NotAscii);
     }
     if wire::has_high(device) {
-        return Verdict::Refused(Refusal::NotAscii);
+        return Err(Refusal::NotAscii);
     }
     if room < 48 {
-        return Verdict::Refused(Refusal::SmallBuffer);
+        return Err(Refusal::SmallBuffer);
     }
-    Verdict::Accepted
+    Ok(())
 }
 
 // Whether a rejection is refused.
-fn reject_verdict(turn: Turn, text: &[u8], linefeeds: bool, room: usize) -> Verdict
+fn reject_verdict(turn: Turn, text: &[u8], linefeeds: bool, room: usize) -> Result<(), Refusal>
     ensures { (s : Session) → s.phase ≡ turn.phase → s.state.linefeeds ≡ linefeeds → reject_says room s text.now ≡
         settled result (server_refusing s) (line_awaited s.state (chip_reply s.state.linefeeds (text.now ∷ []))) }
 {
-    let phase = turn.phase;
-    if !is_obd(phase) {
-        return Verdict::Refused(Refusal::OutOfTurn);
+    if turn.phase != Phase::ObdCommand {
+        return Err(Refusal::OutOfTurn);
     }
     if 64 < text.len() {
-        return Verdict::Refused(Refusal::TooLong);
+        return Err(Refusal::TooLong);
     }
     if wire::has_high(text) {
-        return Verdict::Refused(Refusal::NotAscii);
+        return Err(Refusal::NotAscii);
     }
     if room < text_reply_size(text, linefeeds) {
-        return Verdict::Refused(Refusal::SmallBuffer);
+        return Err(Refusal::SmallBuffer);
     }
-    Verdict::Accepted
+    Ok(())
 }
 
 // The settings after the AT command that the first len bytes of a line are, and what it is.
@@ -159,7 +136,7 @@ impl ServerSession {
     // The command has been answered: with settings as they are now the next line is read.
     fn answered(mut self, state: ClientState, written: usize) -> ServerStep
         ensures { result ≡ record {
-          answer = ServerAnswer.Reading;
+          answer = Ok Phase.Reading;
           taken = 0;
           written = written;
           session = record
@@ -167,13 +144,12 @@ impl ServerSession {
         } }
     {
         self.state = state;
-        let turn = Turn {
+        self.turn = Turn {
             phase: Phase::Reading,
             len: 0,
         };
-        self.turn = turn;
         ServerStep {
-            answer: ServerAnswer::Reading,
+            answer: Ok(Phase::Reading),
             taken: 0,
             written,
             session: self,
@@ -182,10 +158,10 @@ impl ServerSession {
 
     // Nothing is done.
     fn refused(self, refusal: Refusal) -> ServerStep
-        ensures { result ≡ record { answer = ServerAnswer.Refused refusal; taken = 0; written = 0; session = self } }
+        ensures { result ≡ record { answer = Err refusal; taken = 0; written = 0; session = self } }
     {
         ServerStep {
-            answer: ServerAnswer::Refused(refusal),
+            answer: Err(refusal),
             taken: 0,
             written: 0,
             session: self,
@@ -195,10 +171,9 @@ impl ServerSession {
     // Answers the AT command that is handed out, with the line ending that is then in force. ati and device are the identity strings for ATI and AT@1.
     pub fn answer<'a>(self, ati: &'a [u8], device: &'a [u8], out: &mut [u8]) -> ServerStep
         ensures out_after { server_step result out.new ≡ server_lent (answer_says (length out.old) (session self) ati.now device.now) out.old }
-        ensures refused_unchanged { (q : Refusal) → result.answer ≡ ServerAnswer.Refused q → result.session ≡ self }
+        ensures refused_unchanged { (q : Refusal) → result.answer ≡ Err q → result.session ≡ self }
     {
-        let verdict = answer_verdict(self.turn, ati, device, out.len());
-        if let Verdict::Refused(refusal) = verdict {
+        if let Err(refusal) = answer_verdict(self.turn, ati, device, out.len()) {
             return self.refused(refusal);
         }
         let handled = handled(self.state, &self.line, self.turn.len);
@@ -210,37 +185,32 @@ impl ServerSession {
     // becomes the last one.
     pub fn reply(self, list: &[u8], out: &mut [u8]) -> ServerStep
         ensures out_after { server_step result out.new ≡ server_lent (reply_says (length out.old) (session self) list.now) out.old }
-        ensures refused_unchanged { (q : Refusal) → result.answer ≡ ServerAnswer.Refused q → result.session ≡ self }
+        ensures refused_unchanged { (q : Refusal) → result.answer ≡ Err q → result.session ≡ self }
     {
-        let turn = self.turn;
-        let phase = turn.phase;
-        if !is_obd(phase) {
+        if self.turn.phase != Phase::ObdCommand {
             return self.refused(Refusal::OutOfTurn);
         }
-        let answer = reply::write_reply(
-            list,
-            self.state.linefeeds_enabled,
-            self.state.spaces_enabled,
-            self.state.headers_enabled,
-            out,
-        );
-        match answer {
-            Count::Refused(refusal) => self.refused(refusal),
-            Count::Is(size) => {
+        let style = ReplyStyle {
+            linefeeds: self.state.linefeeds_enabled,
+            spaces: self.state.spaces_enabled,
+            headers: self.state.headers_enabled,
+        };
+        match reply::write_reply(list, style, out) {
+            Ok(size) => {
                 let state = remembered(self.state, &self.line, self.turn.len);
                 self.answered(state, size)
             }
+            Err(refusal) => self.refused(refusal),
         }
     }
 
     // Rejects the OBD command that is handed out with a line of text, as `?` or UNABLE TO CONNECT. The last command remains.
     pub fn reject(self, text: &[u8], out: &mut [u8]) -> ServerStep
         ensures out_after { server_step result out.new ≡ server_lent (reject_says (length out.old) (session self) text.now) out.old }
-        ensures refused_unchanged { (q : Refusal) → result.answer ≡ ServerAnswer.Refused q → result.session ≡ self }
+        ensures refused_unchanged { (q : Refusal) → result.answer ≡ Err q → result.session ≡ self }
     {
         let linefeeds = self.state.linefeeds_enabled;
-        let verdict = reject_verdict(self.turn, text, linefeeds, out.len());
-        if let Verdict::Refused(refusal) = verdict {
+        if let Err(refusal) = reject_verdict(self.turn, text, linefeeds, out.len()) {
             return self.refused(refusal);
         }
         let written = reply::put_text_reply(out, 0, text, linefeeds);

@@ -2,15 +2,13 @@
 #![tactic(auto)]
 
 ghost use Rattle.std.specs.Prelude.{◌≡◌};
-ghost use Rattle.pid.specs.Lengths.{data_length, length_in};
+ghost use Rattle.wire.specs.Answer.{number_of};
+ghost use Rattle.pid.specs.Lengths.{length_in};
 ghost use Rattle.query.specs.Query.{count_of};
 ghost use Rattle.server_state.specs.State.{support_at_first, decided, may_try, nothing_learned, count_in, with_repeat, with_multi};
 
-use pid::DataLength;
-use query::EcuCount;
-
 // Whether the peer supports an optional feature.
-#[derive(Clone, Copy)]
+#[derive(Clone, Copy, PartialEq, Eq)]
 pub enum FeatureSupport {
     // Not yet tested.
     Unknown,
@@ -35,8 +33,7 @@ impl FeatureSupport {
     {
         match self {
             FeatureSupport::Unknown => shown,
-            FeatureSupport::Yes => FeatureSupport::Yes,
-            FeatureSupport::No => FeatureSupport::No,
+            FeatureSupport::Yes | FeatureSupport::No => self,
         }
     }
 
@@ -44,11 +41,7 @@ impl FeatureSupport {
     pub fn may_try(self) -> bool
         ensures { result ≡ may_try self }
     {
-        match self {
-            FeatureSupport::Unknown => true,
-            FeatureSupport::Yes => true,
-            FeatureSupport::No => false,
-        }
+        self != FeatureSupport::No
     }
 }
 
@@ -99,52 +92,31 @@ impl ServerState {
     }
 
     // How many ECUs answered a PID, once that is learned: what a query of it waits for.
-    pub fn ecu_count(self, pid: u8) -> EcuCount
+    pub fn ecu_count(self, pid: u8) -> Option<u8>
         ensures { count_of result ≡ count_in self.ecu_counts pid }
     {
-        let counts = self.ecu_counts;
-        let count = counts[pid as usize];
-        if count == 0 {
-            return EcuCount::Any;
+        match self.ecu_counts[usize::from(pid)] {
+            0 => None,
+            count => Some(count),
         }
-        EcuCount::Given(count)
     }
 
-    // How many data bytes follow a PID in a reply: from the table, or learned.
-    pub fn data_length(self, pid: u8) -> DataLength
-        ensures { data_length result ≡ length_in self.pid_lengths pid }
+    // How many data bytes follow a PID in a reply, where it is known: from the table, or learned.
+    pub fn data_length(self, pid: u8) -> Option<u8>
+        ensures { number_of result ≡ length_in self.pid_lengths pid }
     {
-        let lengths = self.pid_lengths;
-        pid::data_length(&lengths, pid)
+        pid::data_length(&self.pid_lengths, pid)
     }
 
     pub fn with_repeat(self, repeat: FeatureSupport) -> ServerState
         ensures { result ≡ with_repeat self repeat }
     {
-        let multi_pid = self.multi_pid;
-        let pid_lengths = self.pid_lengths;
-        let ecu_counts = self.ecu_counts;
-        ServerState {
-            framing: self.framing,
-            repeat,
-            multi_pid,
-            pid_lengths,
-            ecu_counts,
-        }
+        ServerState { repeat, ..self }
     }
 
     pub fn with_multi_pid(self, multi_pid: FeatureSupport) -> ServerState
         ensures { result ≡ with_multi self multi_pid }
     {
-        let repeat = self.repeat;
-        let pid_lengths = self.pid_lengths;
-        let ecu_counts = self.ecu_counts;
-        ServerState {
-            framing: self.framing,
-            repeat,
-            multi_pid,
-            pid_lengths,
-            ecu_counts,
-        }
+        ServerState { multi_pid, ..self }
     }
 }
