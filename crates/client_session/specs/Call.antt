@@ -1,6 +1,6 @@
 -- What a call on a client session says, and what the host then sees of it. Document 01: "Every session call is by turn: bytes to send are written to a lent out
 -- buffer, bytes received are handed in."
-use Rattle.std.specs.Prelude.{◌≡◌, Bool, true, false, cond, ◌&&◌, List, [], ℕ, ◌≤◌, length}
+use Rattle.std.specs.Prelude.{◌≡◌, Bool, true, false, cond, ◌&&◌, List, [], ℕ, ◌≤◌, length, Result, Ok, Err}
 use Rattle.std.proofs.lemmas.List.Edits.{sets}
 use Rattle.wire.specs.declared.Refusal.{Refusal}
 use Rattle.wire.specs.Answer.{Answer, result, refused, number}
@@ -13,6 +13,8 @@ use Rattle.client_session.specs.declared.Under.TheVariants.{Idle, Awaiting}
 use Rattle.client_session.specs.declared.ClientSession.{ClientSession}
 use Rattle.client_session.specs.declared.ClientAnswer.{ClientAnswer}
 use Rattle.client_session.specs.declared.ClientAnswer.TheVariants as answer
+use Rattle.client_session.specs.declared.ClientError.{ClientError}
+use Rattle.client_session.specs.declared.ClientError.TheVariants as error
 use Rattle.client_session.specs.declared.ClientStep.{ClientStep}
 use Rattle.client_session.specs.Session.{Client, client, when_awaiting, is_complete, with_under, with_server, with_last_query}
 
@@ -87,14 +89,22 @@ abbrev pub client_lent : ClientSaid → List ℕ → ClientServed
 client_lent d out = record { answer = d.answer; written = length d.text; next = d.next; out = sets out 0 d.text }
 
 -- the cases of ClientAnswer
-abbrev pub client_answer : ClientAnswer → Answer Progress
-client_answer answer.Sent = result sent
-client_answer answer.Awaited = result awaited
-client_answer answer.Over = result over
-client_answer answer.Complete = result complete
-client_answer (answer.Values n) = result (values n)
-client_answer (answer.Refused q) = refused (number q)
-client_answer (answer.Failed q) = refused (number q)
+abbrev pub progress : ClientAnswer → Progress
+progress answer.Sent = sent
+progress answer.Awaited = awaited
+progress answer.Over = over
+progress answer.Complete = complete
+progress (answer.Values n) = values n
+
+-- the refusal that an error tells of
+abbrev pub refusal_of : ClientError → Refusal
+refusal_of (error.Refused q) = q
+refusal_of (error.Failed q) = q
+
+-- the cases of a step's answer
+abbrev pub client_answer : Result ClientAnswer ClientError → Answer Progress
+client_answer (Ok a) = result (progress a)
+client_answer (Err e) = refused (number (refusal_of e))
 
 abbrev pub client_step : ClientStep → List ℕ → ClientServed
 client_step r out = record { answer = client_answer r.answer; written = r.written; next = client r.session; out = out }
@@ -102,5 +112,5 @@ client_step r out = record { answer = client_answer r.answer; written = r.writte
 -- Refused is 1 to 6, with the session itself as it was; Failed is one of the others
 abbrev pub RefusedOrFailed : ClientStep → ClientSession → Type 0
 RefusedOrFailed r before =
-    ((q : Refusal) → r.answer ≡ answer.Refused q → (number q ≤ 6) × (r.session ≡ before)) ×
-    ((q : Refusal) → r.answer ≡ answer.Failed q → 7 ≤ number q)
+    ((q : Refusal) → r.answer ≡ Err (error.Refused q) → (number q ≤ 6) × (r.session ≡ before)) ×
+    ((q : Refusal) → r.answer ≡ Err (error.Failed q) → 7 ≤ number q)

@@ -5,9 +5,9 @@ mod finish;
 mod piece;
 mod start;
 
-ghost use Rattle.std.specs.Prelude.{◌≡◌, ◌&&◌, []};
+ghost use Rattle.std.specs.Prelude.{◌≡◌, ◌&&◌, [], Ok, Err};
 ghost use Rattle.client_session.specs.Session.{client, fresh_client, is_idle, is_complete, with_under, with_last_query};
-ghost use Rattle.client_session.specs.Call.{is_query, in_query, failed_client};
+ghost use Rattle.client_session.specs.Call.{is_query, in_query, failed_client, refusal_of};
 ghost use Rattle.client_session.specs.Steps.{Stepped, unchanged};
 
 use client_command::FramingEffect;
@@ -61,7 +61,7 @@ pub struct ClientSession {
     pub pending: Pending,
 }
 
-// What a call says.
+// How far a call has brought what is under way.
 #[derive(Clone, Copy)]
 pub enum ClientAnswer {
     // A command is to be sent, and its reply is awaited.
@@ -74,15 +74,30 @@ pub enum ClientAnswer {
     Complete,
     // The query is finished, and so many values stand in out.
     Values(usize),
+}
+
+// Why a call has not.
+#[derive(Clone, Copy)]
+pub enum ClientError {
     // 1 to 6: the call was not right, and the session is as it was.
     Refused(Refusal),
     // 7 to 9: what was under way has ended.
     Failed(Refusal),
 }
 
+impl From<ClientError> for Refusal {
+    ghost from_gives = { λ error refusal. refusal ≡ refusal_of error };
+
+    fn from(error: ClientError) -> Refusal {
+        match error {
+            ClientError::Refused(refusal) | ClientError::Failed(refusal) => refusal,
+        }
+    }
+}
+
 #[derive(Clone, Copy)]
 pub struct ClientStep {
-    pub answer: ClientAnswer,
+    pub answer: Result<ClientAnswer, ClientError>,
     // How many bytes of out are to be sent, or are values.
     pub written: usize,
     pub session: ClientSession,
@@ -98,33 +113,19 @@ pub enum Failure {
 fn is_idle(under: Under) -> bool
     ensures { result ≡ is_idle under }
 {
-    match under {
-        Under::Idle => true,
-        Under::Awaiting(_) => false,
-        Under::Complete => false,
-    }
+    matches!(under, Under::Idle)
 }
 
 fn is_complete(under: Under) -> bool
     ensures { result ≡ is_complete under }
 {
-    match under {
-        Under::Idle => false,
-        Under::Awaiting(_) => false,
-        Under::Complete => true,
-    }
+    matches!(under, Under::Complete)
 }
 
 fn is_query(command: Command) -> bool
     ensures { result ≡ is_query command }
 {
-    match command {
-        Command::Reset => false,
-        Command::Setup(_) => false,
-        Command::Raw(_) => false,
-        Command::Query => true,
-        Command::Repeat => true,
-    }
+    matches!(command, Command::Query | Command::Repeat)
 }
 
 // Whether a query's reply is awaited, or complete.
@@ -142,10 +143,7 @@ fn in_query(under: Under) -> bool
 fn in_several(under: Under, several: bool) -> bool
     ensures { result ≡ (in_query under && several) }
 {
-    if in_query(under) {
-        return several;
-    }
-    false
+    in_query(under) && several
 }
 
 impl ClientSession {
@@ -171,28 +169,27 @@ impl ClientSession {
     fn moved(mut self, under: Under, got: usize) -> ClientSession
         ensures { client result ≡ with_under (client self) under got }
     {
-        let pending = Pending { under, got };
-        self.pending = pending;
+        self.pending = Pending { under, got };
         self
     }
 
-    // So many bytes of out are to be sent, with this or nothing under way.
-    fn ends(self, answer: ClientAnswer, written: usize, under: Under, got: usize) -> ClientStep
-        ensures { Stepped (with_under (client self) under got) answer written result }
+    // This or nothing is under way, and nothing is to be sent.
+    fn ends(self, answer: ClientAnswer, under: Under, got: usize) -> ClientStep
+        ensures { Stepped (with_under (client self) under got) (Ok answer) 0 result }
     {
         ClientStep {
-            answer,
-            written,
+            answer: Ok(answer),
+            written: 0,
             session: self.moved(under, got),
         }
     }
 
     // So many bytes of out are this command, whose reply is awaited.
     fn sends(self, command: Command, written: usize) -> ClientStep
-        ensures { Stepped (with_under (client self) (Under.Awaiting command) 0) ClientAnswer.Sent written result }
+        ensures { Stepped (with_under (client self) (Under.Awaiting command) 0) (Ok ClientAnswer.Sent) written result }
     {
         ClientStep {
-            answer: ClientAnswer::Sent,
+            answer: Ok(ClientAnswer::Sent),
             written,
             session: self.moved(Under::Awaiting(command), 0),
         }
@@ -203,7 +200,7 @@ impl ClientSession {
         ensures { result ≡ unchanged self refusal }
     {
         ClientStep {
-            answer: ClientAnswer::Refused(refusal),
+            answer: Err(ClientError::Refused(refusal)),
             written: 0,
             session: self,
         }
@@ -221,24 +218,19 @@ impl ClientSession {
     fn failed(mut self) -> ClientSession
         ensures { client result ≡ failed_client (client self) }
     {
-        let pending = self.pending;
-        let under = pending.under;
-        if in_several(under, self.several) {
-            let server = self.server;
-            let multi_pid = server.multi_pid;
-            let marked = server.with_multi_pid(multi_pid.decide(FeatureSupport::No));
-            self.server = marked;
-            return self.forgets();
+        if in_several(self.pending.under, self.several) {
+            let multi_pid = self.server.multi_pid.decide(FeatureSupport::No);
+            self.server = self.server.with_multi_pid(multi_pid);
         }
         self.forgets()
     }
 
     // 7, 8 and 9 end what is under way.
     fn fails(self, refusal: Refusal) -> ClientStep
-        ensures { Stepped (failed_client (client self)) (ClientAnswer.Failed refusal) 0 result }
+        ensures { Stepped (failed_client (client self)) (Err (ClientError.Failed refusal)) 0 result }
     {
         ClientStep {
-            answer: ClientAnswer::Failed(refusal),
+            answer: Err(ClientError::Failed(refusal)),
             written: 0,
             session: self.failed(),
         }

@@ -12,79 +12,75 @@ ghost use Rattle.client_session.specs.Start.{init_says, command_says, send_query
 ghost use Rattle.client_session.specs.Steps.{Does, Early};
 
 use crate::{ClientSession, ClientStep, Command, Under};
-use query::EcuCount;
 use query_text::QueryText;
 use server_state::FeatureSupport;
-use wire::{Refusal, Verdict};
+use wire::Refusal;
 
 // Whether the initialisation is refused.
 #[tactic(auto, unfolding(crate::specs::Start::init_says, wire::specs::Answer::unless))]
-fn init_verdict(under: Under, room: usize) -> Verdict
+fn init_verdict(under: Under, room: usize) -> Result<(), Refusal>
     ensures says { (c : Client) → c.under ≡ under → init_says room c ≡ settled result (client_refusing c) (sends c Command.Reset (ascii "ATZ\r")) }
     ensures early { Early result }
 {
     if !crate::is_idle(under) {
-        return Verdict::Refused(Refusal::OutOfTurn);
+        return Err(Refusal::OutOfTurn);
     }
     if room < 80 {
-        return Verdict::Refused(Refusal::SmallBuffer);
+        return Err(Refusal::SmallBuffer);
     }
-    Verdict::Accepted
+    Ok(())
 }
 
 // Whether a raw command is refused.
 #[tactic(auto, unfolding(crate::specs::Start::command_says, wire::specs::Answer::unless))]
-fn command_verdict(under: Under, command: &[u8], room: usize) -> Verdict
+fn command_verdict(under: Under, command: &[u8], room: usize) -> Result<(), Refusal>
     ensures says { (c : Client) → c.under ≡ under → command_says room c command.now ≡
         settled result (client_refusing c) (sends (with_last_query c []) (Command.Raw (framing_effect command.now)) (with_cr command.now)) }
     ensures early { Early result }
 {
     if !crate::is_idle(under) {
-        return Verdict::Refused(Refusal::OutOfTurn);
+        return Err(Refusal::OutOfTurn);
     }
     if 64 < command.len() {
-        return Verdict::Refused(Refusal::TooLong);
+        return Err(Refusal::TooLong);
     }
     if wire::has_high(command) {
-        return Verdict::Refused(Refusal::NotAscii);
+        return Err(Refusal::NotAscii);
     }
     if room < 80 {
-        return Verdict::Refused(Refusal::SmallBuffer);
+        return Err(Refusal::SmallBuffer);
     }
-    Verdict::Accepted
+    Ok(())
 }
 
 // Whether a query is refused.
 #[tactic(auto, unfolding(crate::specs::Start::query_says, wire::specs::Answer::unless))]
-fn query_verdict(under: Under, pids: &[u8], room: usize) -> Verdict
+fn query_verdict(under: Under, pids: &[u8], room: usize) -> Result<(), Refusal>
     ensures says { (c : Client) → (count : ℕ) → (several : Bool) → c.under ≡
         under → query_says room c pids.now count several ≡ settled result (client_refusing c) (send_query c (request pids.now count several)) }
     ensures early { Early result }
-    ensures at_most_six { result ≡ Verdict.Accepted → length pids.now ≤ 6 }
+    ensures at_most_six { result ≡ Ok tt → length pids.now ≤ 6 }
 {
     if !crate::is_idle(under) {
-        return Verdict::Refused(Refusal::OutOfTurn);
+        return Err(Refusal::OutOfTurn);
     }
-    if pids.len() == 0 {
-        return Verdict::Refused(Refusal::PidCount);
+    if pids.is_empty() {
+        return Err(Refusal::PidCount);
     }
     if 6 < pids.len() {
-        return Verdict::Refused(Refusal::PidCount);
+        return Err(Refusal::PidCount);
     }
     if room < 80 {
-        return Verdict::Refused(Refusal::SmallBuffer);
+        return Err(Refusal::SmallBuffer);
     }
-    Verdict::Accepted
+    Ok(())
 }
 
 // Whether a query equals the last one, which a bare CR may repeat.
 fn repeats(repeat: FeatureSupport, last: QueryText, query: QueryText) -> bool
     ensures { result ≡ (may_try repeat && same (text last) (text query)) }
 {
-    if repeat.may_try() {
-        return last.is(query);
-    }
-    false
+    repeat.may_try() && last.is(query)
 }
 
 impl ClientSession {
@@ -93,10 +89,7 @@ impl ClientSession {
         ensures out_after { client_step result out.new ≡ client_lent (init_says (length out.old) (client self)) out.old }
         ensures refused_or_failed { RefusedOrFailed result self }
     {
-        let pending = self.pending;
-        let under = pending.under;
-        let verdict = init_verdict(under, out.len());
-        if let Verdict::Refused(refusal) = verdict {
+        if let Err(refusal) = init_verdict(self.pending.under, out.len()) {
             return self.refused(refusal);
         }
         let written = wire::put(out, 0, b"ATZ\r");
@@ -108,10 +101,7 @@ impl ClientSession {
         ensures out_after { client_step result out.new ≡ client_lent (command_says (length out.old) (client self) command.now) out.old }
         ensures refused_or_failed { RefusedOrFailed result self }
     {
-        let pending = self.pending;
-        let under = pending.under;
-        let verdict = command_verdict(under, command, out.len());
-        if let Verdict::Refused(refusal) = verdict {
+        if let Err(refusal) = command_verdict(self.pending.under, command, out.len()) {
             return self.refused(refusal);
         }
         self.last.len = 0;
@@ -121,7 +111,7 @@ impl ClientSession {
     }
 
     // The session with a query of at most six PIDs, to be sent.
-    fn with_query(mut self, pids: &[u8], count: EcuCount, several: bool) -> ClientSession
+    fn with_query(mut self, pids: &[u8], count: Option<u8>, several: bool) -> ClientSession
         requires { length pids.now ≤ 6 }
         ensures { client result ≡ with_query (client self) (request pids.now (count_of count) several) }
     {
@@ -137,43 +127,36 @@ impl ClientSession {
     fn ask(self, out: &mut [u8]) -> ClientStep
         ensures { Does (send_query (client self) (client self).query) out.old (client_step result out.new) }
     {
-        let server = self.server;
-        let repeat = server.repeat;
-        let query = self.query;
-        if repeats(repeat, self.last, query) {
+        if repeats(self.server.repeat, self.last, self.query) {
             let written = wire::put_byte(out, 0, b'\r');
             return self.sends(Command::Repeat, written);
         }
-        let written = query.put_line(out, 0);
+        let written = self.query.put_line(out, 0);
         self.sends(Command::Query, written)
     }
 
     // Starts a query.
-    fn start_query(self, pids: &[u8], count: EcuCount, several: bool, out: &mut [u8]) -> ClientStep
+    fn start_query(self, pids: &[u8], count: Option<u8>, several: bool, out: &mut [u8]) -> ClientStep
         ensures out_after { client_step result out.new ≡
             client_lent (query_says (length out.old) (client self) pids.now (count_of count) several) out.old }
         ensures refused_or_failed { RefusedOrFailed result self }
     {
-        let pending = self.pending;
-        let under = pending.under;
-        let verdict = query_verdict(under, pids, out.len());
-        if let Verdict::Refused(refusal) = verdict {
+        if let Err(refusal) = query_verdict(self.pending.under, pids, out.len()) {
             return self.refused(refusal);
         }
         self.with_query(pids, count, several).ask(out)
     }
 
     // Starts a query of one PID, with the number of ECUs that it waits for.
-    pub fn query_pid(self, pid: u8, count: EcuCount, out: &mut [u8]) -> ClientStep
+    pub fn query_pid(self, pid: u8, count: Option<u8>, out: &mut [u8]) -> ClientStep
         ensures out_after { client_step result out.new ≡ client_lent (query_says (length out.old) (client self) (pid ∷ []) (count_of count) false) out.old }
         ensures refused_or_failed { RefusedOrFailed result self }
     {
-        let pids = [pid];
-        self.start_query(&pids, count, false, out)
+        self.start_query(&[pid], count, false, out)
     }
 
     // Starts a query of one to six PIDs. The first such query decides multi-PID support.
-    pub fn query_pids(self, pids: &[u8], count: EcuCount, out: &mut [u8]) -> ClientStep
+    pub fn query_pids(self, pids: &[u8], count: Option<u8>, out: &mut [u8]) -> ClientStep
         ensures out_after { client_step result out.new ≡
             client_lent (query_says (length out.old) (client self) pids.now (count_of count) true) out.old }
         ensures refused_or_failed { RefusedOrFailed result self }

@@ -1,21 +1,15 @@
 -- Document 01, client_session.rs: "A reader walks the lines of one lent reply, holding the reply and its position." Where each line stands, and where the reader
 -- stands after it; WalkLaws has that the texts of a walk from 0 are `text_lines`, all and in order. Positions are those of the lent reply, its 00 counted.
 use Rattle.std.specs.Prelude.{cond, List, [], ◌∷◌, ℕ, zero, suc, ◌+◌, ◌-◌, min, length, take, drop}
+use Rattle.std.specs.Prelude as rust
 use Rattle.std.proofs.Math.Option.{Option, none, some}
 use Rattle.reply_lines.specs.Lines.{split_cr, trim_start, trimmed, stays}
-use Rattle.reply_lines.specs.declared.TextStep.{TextStep}
-use Rattle.reply_lines.specs.declared.TextStep.TheVariants as step
+use Rattle.reply_lines.specs.declared.TextPlace.{TextPlace}
 
--- Where a line's text starts and ends in a reply, and where the next line is looked for.
-pub record TextPlace : Type 0 where
-  pub start : ℕ
-  pub end : ℕ
-  pub next : ℕ
-
--- the cases of TextStep
-abbrev pub text_step : TextStep → Option TextPlace
-text_step (step.Text start end next) = some (record { start = start; end = end; next = next })
-text_step step.End = none
+-- where a line's text starts and ends in a reply, and where the next line is looked for, if there is one
+abbrev pub text_step : rust.Option TextPlace → Option TextPlace
+text_step (rust.Some p) = some p
+text_step rust.None = none
 
 -- the first line that stays, of lines that start at a position; the next one is looked for past the CR, or at the reply's end
 abbrev pub line_among : ℕ → ℕ → List (List ℕ) → Option TextPlace

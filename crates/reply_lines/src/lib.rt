@@ -10,18 +10,12 @@ ghost use Rattle.reply_lines.specs.Decode.{text_line, DecodedAs};
 ghost use Rattle.reply_lines.specs.Reader.{text_step, line_from, past_step, step_text};
 ghost use Rattle.reply_lines.specs.Steps.{to_cr, is_skipped, CharAt, HeadOf};
 
-use hex_text::HexNumber;
-
-// The next line of a reply that counts.
+// A line of a reply that counts: its text is reply[start..end], and the next line is looked for from next on.
 #[derive(Clone, Copy)]
-pub enum TextStep {
-    // Its text is reply[start..end]; the next line is looked for from next on.
-    Text {
-        start: usize,
-        end: usize,
-        next: usize,
-    },
-    End,
+pub struct TextPlace {
+    pub start: usize,
+    pub end: usize,
+    pub next: usize,
 }
 
 // A line's ECU+1, 0 when unknown, and how many bytes of data it has.
@@ -101,14 +95,14 @@ fn trim_end(s: &[u8]) -> &[u8]
 fn stays(text: &[u8]) -> bool
     ensures { result ≡ stays text.now }
 {
-    if text.len() == 0 {
+    if text.is_empty() {
         return false;
     }
     !wire::has(text, b'>')
 }
 
-// The next line that stays, from position at on.
-pub fn next_line(reply: &[u8], at: usize) -> TextStep
+// The next line that stays, from position at on, or none.
+pub fn next_line(reply: &[u8], at: usize) -> Option<TextPlace>
     ensures { text_step result ≡ line_from reply.now at }
 {
     let mut at = at;
@@ -119,15 +113,15 @@ pub fn next_line(reply: &[u8], at: usize) -> TextStep
         let start = cr - text.len();
         let trimmed = trim_end(text);
         if stays(trimmed) {
-            return TextStep::Text {
+            return Some(TextPlace {
                 start,
                 end: start + trimmed.len(),
                 next,
-            };
+            });
         }
         at = next;
     }
-    TextStep::End
+    None
 }
 
 // A reader that walks the lines of one lent reply. The work is done on a slice and a number; the functions over LineReader take it apart and are thin.
@@ -139,16 +133,12 @@ pub struct LineReader<'a> {
 }
 
 // Where a reader goes on after a step: past its line, or where it stands when no line is left.
-fn past_step(at: usize, step: TextStep) -> usize
+fn past_step(at: usize, step: Option<TextPlace>) -> usize
     ensures { result ≡ past_step at (text_step step) }
 {
     match step {
-        TextStep::Text {
-            start: _,
-            end: _,
-            next,
-        } => next,
-        TextStep::End => at,
+        Some(line) => line.next,
+        None => at,
     }
 }
 
@@ -169,16 +159,12 @@ fn part<'a>(reply: &'a [u8], start: usize, end: usize) -> &'a [u8]
 }
 
 // The text of a step over a reply.
-fn step_text<'a>(reply: &'a [u8], step: TextStep) -> &'a [u8]
+fn step_text<'a>(reply: &'a [u8], step: Option<TextPlace>) -> &'a [u8]
     ensures { result.now ≡ step_text reply.now (text_step step) }
 {
     match step {
-        TextStep::Text {
-            start,
-            end,
-            next: _,
-        } => part(reply, start, end),
-        TextStep::End => &reply[..0],
+        Some(line) => part(reply, line.start, line.end),
+        None => &reply[..0],
     }
 }
 
@@ -190,8 +176,8 @@ impl<'a> LineReader<'a> {
         LineReader { reply, at: 0 }
     }
 
-    // The next line, and the reader moves past it; End, and it stays, when no line is left.
-    pub fn next_line<'s>(&'s mut self) -> TextStep
+    // The next line, and the reader moves past it; none, and it stays, when no line is left.
+    pub fn next_line<'s>(&'s mut self) -> Option<TextPlace>
         ensures { (text_step result ≡ line_from self.old.reply.now self.old.at)
             × (self.new.reply ≡ self.old.reply)
             × (self.new.at ≡ past_step self.old.at (line_from self.old.reply.now self.old.at)) }
@@ -203,8 +189,8 @@ impl<'a> LineReader<'a> {
         step
     }
 
-    // The text of a line that the reader gave: a part of the reply, not copied, with any 00 that stands inside it. Nothing for End.
-    pub fn text(self, step: TextStep) -> &'a [u8]
+    // The text of a line that the reader gave: a part of the reply, not copied, with any 00 that stands inside it. Nothing for none.
+    pub fn text(self, step: Option<TextPlace>) -> &'a [u8]
         ensures { result.now ≡ step_text self.entry.reply.now (text_step step) }
     {
         step_text(self.reply, step)
@@ -258,10 +244,10 @@ fn next_char(text: &[u8], at: usize) -> usize
 fn put_pair(out: &mut [u8], at: usize, a: u8, b: u8) -> usize
     ensures { Put out.old at (kept (hex_number (a ∷ b ∷ []))) result out.new }
 {
-    let HexNumber::Number(byte) = hex_text::hex_pair(a, b) else {
-        return at;
-    };
-    wire::put_byte(out, at, byte as u8)
+    match hex_text::hex_pair(a, b) {
+        Some(byte) => wire::put_byte(out, at, byte),
+        None => at,
+    }
 }
 
 // The bytes of the pairs of a text from position at on, 00 and 20 skipped, stored at the front of out.
@@ -314,8 +300,8 @@ fn ecu_of(a: u8, b: u8, c: u8) -> u16
     ensures { result ≡ suc (Option.get_or (hex_number (a ∷ b ∷ c ∷ [])) 0) }
 {
     match hex_text::hex_id(a, b, c) {
-        HexNumber::Number(id) => id + 1,
-        HexNumber::Bad => 1,
+        Some(id) => id + 1,
+        None => 1,
     }
 }
 
