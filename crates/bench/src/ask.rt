@@ -7,19 +7,18 @@ ghost use Rattle.bench.specs.Run.{send_room, reply_room, start_says, asking, par
 ghost use Rattle.bench.specs.Steps.{bench_of, round_of, Comes, part_text, closed, PartDoes};
 
 use crate::{Bench, PartStep, Round, rounds};
-use client_session::{ClientAnswer, ClientSession, ClientStep};
-use query::EcuCount;
-use wire::Count;
+use client_session::{ClientAnswer, ClientError, ClientSession, ClientStep};
+use wire::Refusal;
 
 // The number of ECUs that a query waits for, from its count+1 in a script.
-fn ecu_count(count: u16) -> EcuCount
+fn ecu_count(count: u16) -> Option<u8>
     requires { count ≤ 256 }
     ensures { count_of result ≡ count }
 {
     if count == 0 {
-        return EcuCount::Any;
+        return None;
     }
-    EcuCount::Given((count - 1) as u8)
+    Some((count - 1) as u8)
 }
 
 // Starts a query: one PID through `query_pid`, more through `query_pids`.
@@ -49,14 +48,10 @@ fn ask(
         result reply.new store.new lengths.now }
 {
     let mut out = [0u8; 80];
-    let session = bench.client;
-    let server = bench.server;
-    let begun = start(session, pids, count, &mut out);
-    let client = begun.session;
+    let begun = start(bench.client, pids, count, &mut out);
     let waiting = Bench {
-        client,
-        server,
-        used: bench.used,
+        client: begun.session,
+        ..bench
     };
     let first = rounds::round(
         waiting,
@@ -71,17 +66,14 @@ fn ask(
 }
 
 // What an answer comes to in the record: so many values, or the number that ends the run.
-pub(crate) fn part_answer(answer: ClientAnswer) -> Count
+pub(crate) fn part_answer(answer: Result<ClientAnswer, ClientError>) -> Result<usize, Refusal>
     ensures { (text : List ℕ) → part_text result text ≡ part_of (client_answer answer) text }
 {
-    match answer {
-        ClientAnswer::Sent => Count::Is(0),
-        ClientAnswer::Awaited => Count::Is(0),
-        ClientAnswer::Over => Count::Is(0),
-        ClientAnswer::Complete => Count::Is(0),
-        ClientAnswer::Values(count) => Count::Is(count),
-        ClientAnswer::Refused(refusal) => Count::Refused(refusal),
-        ClientAnswer::Failed(refusal) => Count::Refused(refusal),
+    match answer? {
+        ClientAnswer::Values(count) => Ok(count),
+        ClientAnswer::Sent | ClientAnswer::Awaited | ClientAnswer::Over | ClientAnswer::Complete => {
+            Ok(0)
+        }
     }
 }
 
@@ -90,18 +82,13 @@ fn close(bench: Bench, store: &[u8], values: &mut [u8]) -> PartStep
     requires { length values.old ≡ reply_room }
     ensures { (lengths : List ℕ) → PartDoes (closed (bench_of bench store.now lengths)) result values.new store.now lengths }
 {
-    let session = bench.client;
-    let server = bench.server;
-    let step = session.finish(store, values);
-    let answer = step.answer;
-    let client = step.session;
+    let step = bench.client.finish(store, values);
     PartStep {
-        answer: part_answer(answer),
+        answer: part_answer(step.answer),
         written: step.written,
         bench: Bench {
-            client,
-            server,
-            used: bench.used,
+            client: step.session,
+            ..bench
         },
     }
 }
@@ -111,17 +98,15 @@ fn finish(asked: Round, store: &[u8], values: &mut [u8]) -> PartStep
     requires { length values.old ≡ reply_room }
     ensures { (lengths : List ℕ) → PartDoes (finished (round_of asked [] store.now lengths)) result values.new store.now lengths }
 {
-    let answer = asked.answer;
-    let bench = asked.bench;
-    let told = part_answer(answer);
-    if let Count::Refused(_) = told {
+    let answer = part_answer(asked.answer);
+    if answer.is_err() {
         return PartStep {
-            answer: told,
+            answer,
             written: 0,
-            bench,
+            bench: asked.bench,
         };
     }
-    close(bench, store, values)
+    close(asked.bench, store, values)
 }
 
 // Asks a query and finishes it. What the server sends stands in work, and then the query's values.

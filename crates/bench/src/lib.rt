@@ -6,28 +6,20 @@ mod exchange;
 mod rounds;
 mod script;
 
-ghost use Rattle.std.specs.Prelude.{◌≡◌, ◌++◌, ◌-◌, ◌≤◌, length, take};
+ghost use Rattle.std.specs.Prelude.{◌≡◌, ◌++◌, ◌-◌, ◌≤◌, length, take, Err};
 ghost use Rattle.wire.specs.Put.{Put};
 ghost use Rattle.group.specs.Group.{group_bytes};
-ghost use Rattle.bench.specs.declared.RunAnswer.TheVariants.{Refused};
 ghost use Rattle.bench.specs.Run.{reply_room, asked, run_says, recorded, run_lent};
 ghost use Rattle.bench.specs.Steps.{bench_of, part_text, added, lent_from, IsScript, queries_of};
 
-use client_session::{ClientAnswer, ClientSession};
+use client_session::{ClientAnswer, ClientError, ClientSession};
 use server_session::ServerSession;
-use wire::{Count, Refusal};
-
-// How a run ended.
-#[derive(Clone, Copy)]
-pub enum RunAnswer {
-    Complete,
-    // 3 or 5 before anything ran; 8, or 6 when a query's part overruns the record buffer.
-    Refused(Refusal),
-}
+use wire::Refusal;
 
 #[derive(Clone, Copy)]
 pub struct BenchRun {
-    pub answer: RunAnswer,
+    // Whether the run was complete, or why it ended: 3 or 5 before anything ran; 8, or 6 when a query's part overruns the record buffer.
+    pub answer: Result<(), Refusal>,
     // How many bytes of the record stand.
     pub written: usize,
 }
@@ -38,19 +30,15 @@ struct ScriptCursor {
     at: usize,
 }
 
+// A query in its script: where the PIDs start and how many they are (1 to 6), ECU count+1 (0 for none, at most 256), and where the line list
+// of its lines starts; it ends where the next query starts.
 #[derive(Clone, Copy)]
-enum QueryStep {
-    // Where the PIDs start and how many they are (1 to 6), ECU count+1 (0 for none, at most 256), and where the line list
-    // of its lines starts; it ends where the next query starts.
-    Query {
-        pids: usize,
-        few: usize,
-        count: u16,
-        list: usize,
-        next: ScriptCursor,
-    },
-    End,
-    Refused(Refusal),
+struct QueryPlace {
+    pids: usize,
+    few: usize,
+    count: u16,
+    list: usize,
+    next: ScriptCursor,
 }
 
 // Both sessions, and how many piece lengths are used up.
@@ -73,7 +61,7 @@ struct ExchangeStep {
 #[derive(Clone, Copy)]
 struct Delivery {
     // What the last piece that was given says.
-    answer: ClientAnswer,
+    answer: Result<ClientAnswer, ClientError>,
     // How many bytes of out the client sends next.
     written: usize,
     session: ClientSession,
@@ -85,7 +73,7 @@ struct Delivery {
 #[derive(Clone, Copy)]
 struct Round {
     // What the reply said to the client.
-    answer: ClientAnswer,
+    answer: Result<ClientAnswer, ClientError>,
     // How many bytes of out the client sends next.
     written: usize,
     bench: Bench,
@@ -94,17 +82,17 @@ struct Round {
 #[derive(Clone, Copy)]
 struct PartStep {
     // How many values a query gave, or the number that ends the run.
-    answer: Count,
+    answer: Result<usize, Refusal>,
     // How many bytes of the lent buffer the values take.
     written: usize,
     bench: Bench,
 }
 
 fn refused(refusal: Refusal, written: usize) -> BenchRun
-    ensures { result ≡ record { answer = Refused refusal; written = written } }
+    ensures { result ≡ record { answer = Err refusal; written = written } }
 {
     BenchRun {
-        answer: RunAnswer::Refused(refusal),
+        answer: Err(refusal),
         written,
     }
 }
@@ -118,20 +106,26 @@ fn put_part(buffer: &mut [u8], at: usize, count: usize, values: &[u8]) -> usize
 }
 
 // Writes a query's part, which has size bytes of values, into the record from position at on, if there is room for it.
-fn add_part(answer: Count, size: usize, values: &[u8], buffer: &mut [u8], at: usize) -> BenchRun
+fn add_part(
+    answer: Result<usize, Refusal>,
+    size: usize,
+    values: &[u8],
+    buffer: &mut [u8],
+    at: usize,
+) -> BenchRun
     requires { (size ≤ length values.now) × (at ≤ length buffer.old) }
     ensures { recorded result buffer.new ≡
         lent_from at (added (length buffer.old - at) (part_text answer (take size values.now))) buffer.old }
 {
     match answer {
-        Count::Refused(refusal) => refused(refusal, at),
-        Count::Is(count) => {
+        Err(refusal) => refused(refusal, at),
+        Ok(count) => {
             if buffer.len() - at < group::group_size(count) + size {
                 return refused(Refusal::SmallBuffer, at);
             }
             let end = put_part(buffer, at, count, &values[..size]);
             BenchRun {
-                answer: RunAnswer::Complete,
+                answer: Ok(()),
                 written: end,
             }
         }
@@ -153,40 +147,30 @@ fn ask_all(
 {
     let mut cursor = ScriptCursor::new();
     let mut at: usize = 0;
-    loop {
-        let QueryStep::Query {
-            pids,
-            few,
-            count,
-            list,
-            next,
-        } = cursor.step(script)
-        else {
-            return BenchRun {
-                answer: RunAnswer::Complete,
-                written: at,
-            };
-        };
-        let pids_end = pids + few;
-        let list_end = next.at;
+    // A checked script is never refused.
+    while let Ok(Some(query)) = cursor.step(script) {
+        let pids_end = query.pids + query.few;
+        let list_end = query.next.at;
         let part = ask::part(
             bench,
-            &script[pids..pids_end],
-            count,
-            &script[list..list_end],
+            &script[query.pids..pids_end],
+            query.count,
+            &script[query.list..list_end],
             lengths,
             work,
             store,
         );
-        let given = part.answer;
-        let added = add_part(given, part.written, work, buffer, at);
-        let answer = added.answer;
-        if let RunAnswer::Refused(_) = answer {
+        let added = add_part(part.answer, part.written, work, buffer, at);
+        if added.answer.is_err() {
             return added;
         }
         at = added.written;
         bench = part.bench;
-        cursor = next;
+        cursor = query.next;
+    }
+    BenchRun {
+        answer: Ok(()),
+        written: at,
     }
 }
 
@@ -199,13 +183,10 @@ fn run_checked(script: &[u8], lengths: &[u8], repeat: bool, buffer: &mut [u8]) -
     let mut work = [0u8; 33026];
     let mut store = [0u8; 4096];
     let begun = rounds::initialise(repeat, lengths, &mut work, &mut store);
-    let answer = begun.answer;
-    let told = ask::part_answer(answer);
-    if let Count::Refused(refusal) = told {
+    if let Err(refusal) = ask::part_answer(begun.answer) {
         return refused(refusal, 0);
     }
-    let bench = begun.bench;
-    ask_all(script, lengths, bench, buffer, &mut work, &mut store)
+    ask_all(script, lengths, begun.bench, buffer, &mut work, &mut store)
 }
 
 // Runs a script, with the lengths of the pieces that the server's bytes are handed to the client in, and with repeat on or off. The parts stand at the front of
@@ -215,7 +196,7 @@ pub fn run(script: &[u8], lengths: &[u8], repeat: bool, buffer: &mut [u8]) -> Be
         run_lent (run_says repeat lengths.now (length buffer.old) script.now) buffer.old }
 {
     match script::check_script(script) {
-        Count::Is(_) => run_checked(script, lengths, repeat, buffer),
-        Count::Refused(refusal) => refused(refusal, 0),
+        Ok(_) => run_checked(script, lengths, repeat, buffer),
+        Err(refusal) => refused(refusal, 0),
     }
 }

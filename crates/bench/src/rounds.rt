@@ -26,13 +26,11 @@ fn back(
         result out.new store.new lengths.now }
 {
     let given = exchange::deliver(session, sent, lengths, used, store, out);
-    let answer = given.answer;
-    let client = given.session;
     Round {
-        answer,
+        answer: given.answer,
         written: given.written,
         bench: Bench {
-            client,
+            client: given.session,
             server,
             used: given.used,
         },
@@ -53,12 +51,17 @@ pub(crate) fn round(
     ensures { RoundDoes (round (bench_of bench store.old lengths.now) (take n out.old) list.now)
         result out.new reply.new store.new lengths.now }
 {
-    let server = bench.server;
-    let client = bench.client;
-    let heard = exchange::exchange(server, &out[..n], list, reply);
+    let heard = exchange::exchange(bench.server, &out[..n], list, reply);
     let end = heard.written;
-    let next = heard.session;
-    back(client, next, &reply[..end], lengths, bench.used, out, store)
+    back(
+        bench.client,
+        heard.session,
+        &reply[..end],
+        lengths,
+        bench.used,
+        out,
+        store,
+    )
 }
 
 // At most n further commands: the client has one where there are bytes to send.
@@ -75,14 +78,11 @@ pub(crate) fn onward(
     ensures { RoundDoes (onward n (round_of at out.old store.old lengths.now) list.now)
         result out.new reply.new store.new lengths.now }
 {
-    let mut left = n;
-    while 0 < left {
+    for _ in 0..n {
         if at.written == 0 {
             return at;
         }
-        let bench = at.bench;
-        at = round(bench, at.written, list, lengths, out, reply, store);
-        left -= 1;
+        at = round(at.bench, at.written, list, lengths, out, reply, store);
     }
     at
 }
@@ -92,8 +92,7 @@ fn send_reset(repeat: bool, out: &mut [u8]) -> ClientStep
     requires { length out.old ≡ send_room }
     ensures { client_step result out.new ≡ client_lent (init_says send_room (fresh_client true repeat)) out.old }
 {
-    let fresh = ClientSession::new(true, repeat);
-    fresh.init(out)
+    ClientSession::new(true, repeat).init(out)
 }
 
 // The client's command at a fresh server.
@@ -115,13 +114,11 @@ fn one_piece(
         (store_after (client session) (client_answer result.answer) sent.now store.old) server result out.new store.new }
 {
     let step = session.piece(sent, store, out);
-    let answer = step.answer;
-    let client = step.session;
     Round {
-        answer,
+        answer: step.answer,
         written: step.written,
         bench: Bench {
-            client,
+            client: step.session,
             server,
             used: 0,
         },
@@ -135,11 +132,9 @@ fn reset(repeat: bool, out: &mut [u8], reply: &mut [u8], store: &mut [u8]) -> Ro
 {
     let start = send_reset(repeat, out);
     let n = start.written;
-    let waiting = start.session;
     let heard = fresh_exchange(&out[..n], reply);
     let end = heard.written;
-    let server = heard.session;
-    one_piece(waiting, server, &reply[..end], out, store)
+    one_piece(start.session, heard.session, &reply[..end], out, store)
 }
 
 // A fresh client and a fresh server after the initialisation.
