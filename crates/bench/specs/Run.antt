@@ -3,9 +3,9 @@
 -- lines of the query under way." "The hire record has, per query, the number of values as a group number and the values. 3 and 5 come before anything runs; 8, or 6
 -- when a query's part overruns the record buffer, ends the run there, and the answer holds the number and the length of the earlier parts, which stand written."
 -- (Hire record is document 01's term.)
-use Rattle.std.specs.Prelude.{Bool, true, not, cond, List, [], ◌∷◌, ◌++◌, ℕ, zero, suc, ◌-◌, eqb, ltb, length, drop, replicate}
+use Rattle.std.specs.Prelude.{Bool, true, not, cond, List, [], ◌∷◌, ◌++◌, ℕ, zero, suc, ◌-◌, eqb, ltb, length, drop, replicate, Result}
 use Rattle.std.proofs.lemmas.List.Edits.{sets}
-use Rattle.wire.specs.Answer.{Answer, result, refused, if_result, number}
+use Rattle.wire.specs.Answer.{Answer, result, refused, if_result, answer_as}
 use Rattle.wire.specs.Text.{joined}
 use Rattle.group.specs.Group.{group_bytes}
 use Rattle.line_list.specs.Lines.{lines_bytes}
@@ -19,8 +19,7 @@ use Rattle.client_session.specs.Finish.{finish_says}
 use Rattle.bench.specs.Script.{Query, script}
 use Rattle.bench.specs.Exchange.{Exchanged, exchanged}
 use Rattle.bench.specs.Deliver.{pieces}
-use Rattle.bench.specs.declared.RunAnswer.{RunAnswer}
-use Rattle.bench.specs.declared.RunAnswer.TheVariants as answer
+use Rattle.wire.specs.declared.Refusal.{Refusal}
 use Rattle.bench.specs.declared.BenchRun.{BenchRun}
 
 -- ---- the buffers of the run, large enough for all that a script can ask for
@@ -159,10 +158,9 @@ run_says repeat lengths room s =
     if_result (script s) (λ n. ended n []) λ qs.
     if_result t.answer (λ n. ended n t.handed) λ p. after [] t.handed (asked room t.bench qs)
 
--- the cases of RunAnswer
-abbrev pub run_answer : RunAnswer → Answer (Unit {0})
-run_answer answer.Complete = result tt
-run_answer (answer.Refused q) = refused (number q)
+-- the cases of a run's answer
+abbrev pub run_answer : Result (Unit {0}) Refusal → Answer (Unit {0})
+run_answer r = answer_as (λ u. u) r
 
 -- A run as the host sees it: its answer, how many bytes of the record stand, and the record buffer.
 pub record Recorded : Type 0 where

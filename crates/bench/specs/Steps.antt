@@ -2,8 +2,9 @@
 use Rattle.std.specs.Prelude.{◌≡◌, Bool, true, cond, List, [], ◌∷◌, ◌++◌, ℕ, ◌+◌, ◌-◌, ◌≤◌, ltb, length, take, drop}
 use Rattle.std.proofs.Math.Option.{Option, none, some}
 use Rattle.std.proofs.lemmas.List.Edits.{sets}
-use Rattle.wire.specs.Answer.{Answer, result, refused, if_result, number, count_answer}
-use Rattle.wire.specs.declared.Count.{Count}
+use Rattle.wire.specs.Answer.{Answer, result, refused, if_result, answer_as, count_answer}
+use Rattle.wire.specs.declared.Refusal.{Refusal}
+use Rattle.std.specs.Prelude as rust
 use Rattle.wire.specs.Text.{joined}
 use Rattle.group.specs.Group.{group_bytes}
 use Rattle.group.specs.Format.{step_of, read_row, answer_of}
@@ -19,8 +20,7 @@ use Rattle.bench.specs.declared.ExchangeStep.{ExchangeStep}
 use Rattle.bench.specs.Exchange.{Exchanged, exchanged}
 use Rattle.bench.specs.Deliver.{pieces}
 use Rattle.bench.specs.Script.{Query, query_format, script}
-use Rattle.bench.specs.declared.QueryStep.{QueryStep}
-use Rattle.bench.specs.declared.QueryStep.TheVariants as step
+use Rattle.bench.specs.declared.QueryPlace as code-place
 use Rattle.bench.specs.declared.Bench as code
 use Rattle.bench.specs.declared.PartStep.{PartStep}
 use Rattle.bench.specs.declared.Round as code-round
@@ -125,7 +125,7 @@ abbrev pub closed : Bench → Part
 closed b = finished (record { answer = result complete; text = []; bench = b; handed = [] })
 
 -- a query's part as the code holds it: the count and the values apart
-abbrev pub part_text : Count → List ℕ → Answer (List ℕ)
+abbrev pub part_text : rust.Result ℕ Refusal → List ℕ → Answer (List ℕ)
 part_text a text = if_result (count_answer a) refused λ n. result (group_bytes n ++ text)
 
 -- A query does what is said, and its values stand in the lent buffer.
@@ -168,10 +168,12 @@ pub record QueryPlace : Type 0 where
   pub list : ℕ
   pub next : ℕ
 
-abbrev pub query_step : QueryStep → Answer (Option QueryPlace)
-query_step (step.Query pids few count list next) = result (some (record { pids = pids; few = few; count = count; list = list; next = next.at }))
-query_step step.End = result none
-query_step (step.Refused r) = refused (number r)
+abbrev pub query_place : rust.Option code-place.QueryPlace → Option QueryPlace
+query_place (rust.Some q) = some (record { pids = q.pids; few = q.few; count = q.count; list = q.list; next = q.next.at })
+query_place rust.None = none
+
+abbrev pub query_step : rust.Result (rust.Option code-place.QueryPlace) Refusal → Answer (Option QueryPlace)
+query_step r = answer_as query_place r
 
 -- a query at a position, of which so much of n bytes is left: its PIDs stand after their count, and its lines before what is left
 abbrev pub query_in : ℕ → ℕ → Query → List ℕ → QueryPlace

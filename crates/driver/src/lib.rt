@@ -12,7 +12,7 @@ ghost use Rattle.driver_server.specs.Server.{server_at, server_run};
 ghost use Rattle.driver_client.specs.Client.{stored_of, stored_as, client_at, client_run};
 ghost use Rattle.driver.specs.Bench.{run_code, bench_logged};
 
-use bench::RunAnswer;
+use wire::Refusal;
 
 // A script on a server session, and then another one for so many rounds. Each round goes on with the session that the one before it left; the script and each round
 // log from the start of the log. The answer is the length of the last log.
@@ -47,12 +47,12 @@ pub fn driver_client(
     driver_client::run_rounds(framing, repeat, script, times, again, store, out, log)
 }
 
-fn run_code(answer: RunAnswer) -> u8
+fn run_code(answer: Result<(), Refusal>) -> u8
     ensures { result ≡ run_code (run_answer answer) }
 {
     match answer {
-        RunAnswer::Complete => 64,
-        RunAnswer::Refused(refusal) => wire::number(refusal),
+        Ok(()) => 64,
+        Err(refusal) => u8::from(refusal),
     }
 }
 
@@ -67,6 +67,5 @@ pub fn driver_bench(
     ensures { logged_as result buffer.new log.new ≡ bench_logged repeat script.now pieces.now buffer.old log.old }
 {
     let run = bench::run(script, pieces, repeat, buffer);
-    let answer = run.answer;
-    driver_log::put_call(log, 0, run_code(answer), 0, buffer, run.written)
+    driver_log::put_call(log, 0, run_code(run.answer), 0, buffer, run.written)
 }

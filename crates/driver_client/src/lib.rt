@@ -3,19 +3,18 @@
 
 ghost use Rattle.std.specs.Prelude.{◌≡◌, take, drop};
 ghost use Rattle.wire.specs.Put.{Put};
-ghost use Rattle.pid.specs.Lengths.{data_length};
+ghost use Rattle.wire.specs.Answer.{number, number_of};
 ghost use Rattle.query.specs.Query.{count_of};
 ghost use Rattle.client_session.specs.Session.{client, fresh_client};
-ghost use Rattle.client_session.specs.Call.{client_answer};
+ghost use Rattle.client_session.specs.Call.{client_answer, refusal_of};
 ghost use Rattle.driver_log.specs.Log.{text_entry};
 ghost use Rattle.driver_log.specs.Script.{calls, rounds};
 ghost use Rattle.driver_client.specs.Client.{start_code, step_code, count_entry, support_code, command_code, under_code, length_number, pids_entry};
 ghost use Rattle.driver_client.specs.Client.{state_entry, count_given, rare_call, client_call, client_turn, client_at, client_run, stored_of, stored_as};
 
-use client_session::{ClientAnswer, ClientSession, Command, Failure, Under};
-use pid::DataLength;
-use query::EcuCount;
+use client_session::{ClientAnswer, ClientError, ClientSession, Command, Failure, Under};
 use server_state::{FeatureSupport, ServerState};
+use wire::Refusal;
 
 // A session after some calls of a script, and the position in the log after their entries.
 #[derive(Clone, Copy)]
@@ -24,47 +23,42 @@ struct ClientTurn {
     at: usize,
 }
 
+// The number of document 01 that an error tells of.
+fn error_code(error: ClientError) -> u8
+    ensures { result ≡ number (refusal_of error) }
+{
+    u8::from(Refusal::from(error))
+}
+
 // The codes of answers: a number of document 01 as itself, and a result as 64 or more; that of a start is 64.
-fn start_code(answer: ClientAnswer) -> u8
+fn start_code(answer: Result<ClientAnswer, ClientError>) -> u8
     ensures { result ≡ start_code (client_answer answer) }
 {
     match answer {
-        ClientAnswer::Sent => 64,
-        ClientAnswer::Awaited => 64,
-        ClientAnswer::Over => 64,
-        ClientAnswer::Complete => 64,
-        ClientAnswer::Values(_) => 64,
-        ClientAnswer::Refused(refusal) => wire::number(refusal),
-        ClientAnswer::Failed(refusal) => wire::number(refusal),
+        Ok(_) => 64,
+        Err(error) => error_code(error),
     }
 }
 
-fn step_code(answer: ClientAnswer) -> u8
+fn step_code(answer: Result<ClientAnswer, ClientError>) -> u8
     ensures { result ≡ step_code (client_answer answer) }
 {
     match answer {
-        ClientAnswer::Sent => 65,
-        ClientAnswer::Awaited => 64,
-        ClientAnswer::Over => 66,
-        ClientAnswer::Complete => 67,
-        ClientAnswer::Values(_) => 64,
-        ClientAnswer::Refused(refusal) => wire::number(refusal),
-        ClientAnswer::Failed(refusal) => wire::number(refusal),
+        Ok(ClientAnswer::Awaited | ClientAnswer::Values(_)) => 64,
+        Ok(ClientAnswer::Sent) => 65,
+        Ok(ClientAnswer::Over) => 66,
+        Ok(ClientAnswer::Complete) => 67,
+        Err(error) => error_code(error),
     }
 }
 
 // How many values a finish gave.
-fn value_count(answer: ClientAnswer) -> usize
+fn value_count(answer: Result<ClientAnswer, ClientError>) -> usize
     ensures { result ≡ count_entry (client_answer answer) }
 {
     match answer {
-        ClientAnswer::Sent => 0,
-        ClientAnswer::Awaited => 0,
-        ClientAnswer::Over => 0,
-        ClientAnswer::Complete => 0,
-        ClientAnswer::Values(count) => count,
-        ClientAnswer::Refused(_) => 0,
-        ClientAnswer::Failed(_) => 0,
+        Ok(ClientAnswer::Values(count)) => count,
+        _ => 0,
     }
 }
 
@@ -101,40 +95,31 @@ fn under_code(under: Under) -> u8
 }
 
 // The length of a PID's data, 256 where it is unknown.
-fn length_number(length: DataLength) -> usize
-    ensures { result ≡ length_number (data_length «length») }
+fn length_number(length: Option<u8>) -> usize
+    ensures { result ≡ length_number (number_of «length») }
 {
-    match length {
-        DataLength::Known(n) => n as usize,
-        DataLength::Unknown => 256,
-    }
+    length.map_or(256, usize::from)
 }
 
 // A learned count and 1, 0 for none.
-fn count_number(count: EcuCount) -> usize
+fn count_number(count: Option<u8>) -> usize
     ensures { result ≡ count_of count }
 {
-    match count {
-        EcuCount::Any => 0,
-        EcuCount::Given(n) => n as usize + 1,
-    }
+    count.map_or(0, |n| usize::from(n) + 1)
 }
 
 // The count in the second byte of an argument, if it has one.
-fn count_given(arg: &[u8]) -> EcuCount
+fn count_given(arg: &[u8]) -> Option<u8>
     ensures { count_of result ≡ count_given arg.now }
 {
-    if arg.len() < 2 {
-        return EcuCount::Any;
-    }
-    EcuCount::Given(arg[1])
+    arg.get(1).copied()
 }
 
 // An argument without its first byte.
 fn after_first(arg: &[u8]) -> &[u8]
     ensures { result.now ≡ drop 1 arg.now }
 {
-    if arg.len() == 0 {
+    if arg.is_empty() {
         return arg;
     }
     &arg[1..]
@@ -145,12 +130,9 @@ fn put_pids(server: ServerState, pids: &[u8], log: &mut [u8], at: usize) -> usiz
     ensures { Put log.old at (pids_entry server.pid_lengths server.ecu_counts pids.now) result log.new }
 {
     let mut at = at;
-    let mut i: usize = 0;
-    while i < pids.len() {
-        let pid = pids[i];
+    for &pid in pids {
         at = driver_log::put_number(log, at, length_number(server.data_length(pid)));
         at = driver_log::put_number(log, at, count_number(server.ecu_count(pid)));
-        i += 1;
     }
     at
 }
@@ -169,13 +151,11 @@ fn put_state(session: ClientSession, arg: &[u8], log: &mut [u8], at: usize) -> u
     ensures { Put log.old at (state_entry (client session) arg.now) result log.new }
 {
     let server = session.server;
-    let pending = session.pending;
-    let under = pending.under;
     let first = [
         driver_log::flag(server.framing()),
         support_code(server.repeat()),
         support_code(server.multi_pid()),
-        under_code(under),
+        under_code(session.pending.under),
     ];
     let at = wire::put(log, at, &first);
     let at = put_last(session, log, at);
@@ -206,39 +186,31 @@ fn rare(
     match kind {
         6 => {
             let step = session.init(out);
-            let answer = step.answer;
-            let next = step.session;
             ClientTurn {
-                session: next,
-                at: driver_log::put_call(log, at, start_code(answer), 0, out, step.written),
+                session: step.session,
+                at: driver_log::put_call(log, at, start_code(step.answer), 0, out, step.written),
             }
         }
         7 => {
-            let count = EcuCount::Given(driver_log::byte_of(arg, 0));
+            let count = Some(driver_log::byte_of(arg, 0));
             let step = session.query_pids(after_first(arg), count, out);
-            let answer = step.answer;
-            let next = step.session;
             ClientTurn {
-                session: next,
-                at: driver_log::put_call(log, at, start_code(answer), 0, out, step.written),
+                session: step.session,
+                at: driver_log::put_call(log, at, start_code(step.answer), 0, out, step.written),
             }
         }
         8 => {
             let step = session.failure(Failure::Read, out);
-            let answer = step.answer;
-            let next = step.session;
             ClientTurn {
-                session: next,
-                at: driver_log::put_call(log, at, step_code(answer), 0, out, step.written),
+                session: step.session,
+                at: driver_log::put_call(log, at, step_code(step.answer), 0, out, step.written),
             }
         }
         9 => {
             let step = session.failure(Failure::Write, out);
-            let answer = step.answer;
-            let next = step.session;
             ClientTurn {
-                session: next,
-                at: driver_log::put_call(log, at, step_code(answer), 0, out, step.written),
+                session: step.session,
+                at: driver_log::put_call(log, at, step_code(step.answer), 0, out, step.written),
             }
         }
         10 => ClientTurn {
@@ -274,9 +246,8 @@ fn run(
         match kind {
             1 => {
                 let step = session.command(&script[start..end], out);
-                let answer = step.answer;
                 session = step.session;
-                at = driver_log::put_call(log, at, start_code(answer), 0, out, step.written);
+                at = driver_log::put_call(log, at, start_code(step.answer), 0, out, step.written);
             }
             2 => {
                 let count = count_given(&script[start..end]);
@@ -285,31 +256,27 @@ fn run(
                     count,
                     out,
                 );
-                let answer = step.answer;
                 session = step.session;
-                at = driver_log::put_call(log, at, start_code(answer), 0, out, step.written);
+                at = driver_log::put_call(log, at, start_code(step.answer), 0, out, step.written);
             }
             3 => {
-                let step = session.query_pids(&script[start..end], EcuCount::Any, out);
-                let answer = step.answer;
+                let step = session.query_pids(&script[start..end], None, out);
                 session = step.session;
-                at = driver_log::put_call(log, at, start_code(answer), 0, out, step.written);
+                at = driver_log::put_call(log, at, start_code(step.answer), 0, out, step.written);
             }
             4 => {
                 let step = session.piece(&script[start..end], store, out);
-                let answer = step.answer;
                 session = step.session;
-                at = driver_log::put_call(log, at, step_code(answer), 0, out, step.written);
+                at = driver_log::put_call(log, at, step_code(step.answer), 0, out, step.written);
             }
             5 => {
                 let step = session.finish(store, out);
-                let answer = step.answer;
                 session = step.session;
                 at = driver_log::put_call(
                     log,
                     at,
-                    step_code(answer),
-                    value_count(answer),
+                    step_code(step.answer),
+                    value_count(step.answer),
                     out,
                     step.written,
                 );
@@ -345,10 +312,8 @@ pub fn run_rounds(
         (client_run script.now (client_at (fresh_client framing repeat) 0 store.old out.old log.old))) }
 {
     let mut turn = run(ClientSession::new(framing, repeat), script, store, out, log);
-    let mut round: usize = 0;
-    while round < times {
+    for _ in 0..times {
         turn = run(turn.session, again, store, out, log);
-        round += 1;
     }
     turn.at
 }

@@ -47,20 +47,14 @@ pub fn put_call(
 pub fn flag(on: bool) -> u8
     ensures { result ≡ flag_byte on }
 {
-    if on {
-        return 1;
-    }
-    0
+    u8::from(on)
 }
 
 // A byte of an argument, 0 past its end.
 pub fn byte_of(arg: &[u8], i: usize) -> u8
     ensures { result ≡ get_or arg.now i 0 }
 {
-    if i < arg.len() {
-        return arg[i];
-    }
-    0
+    arg.get(i).copied().unwrap_or(0)
 }
 
 // How many bytes of the script the argument of the call at from takes, as far as the script reaches; none where it ends before the argument.

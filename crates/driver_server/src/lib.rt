@@ -11,7 +11,8 @@ ghost use Rattle.driver_log.specs.Script.{calls, rounds};
 ghost use Rattle.driver_server.specs.Server.{answer_code, phase_code, server_entry, rare_server_call, server_call, server_turn, server_at, server_run};
 
 use client_state::ClientState;
-use server_session::{Phase, ServerAnswer, ServerSession};
+use server_session::{Phase, ServerSession};
+use wire::Refusal;
 
 // A session after some calls of a script, and the position in the log after their entries.
 #[derive(Clone, Copy)]
@@ -21,14 +22,14 @@ struct ServerTurn {
 }
 
 // The codes of answers: a number of document 01 as itself, and a result as 64 or more.
-fn answer_code(answer: ServerAnswer) -> u8
+fn answer_code(answer: Result<Phase, Refusal>) -> u8
     ensures { result ≡ answer_code (server_answer answer) }
 {
     match answer {
-        ServerAnswer::Reading => 64,
-        ServerAnswer::AtCommand => 65,
-        ServerAnswer::ObdCommand => 66,
-        ServerAnswer::Refused(refusal) => wire::number(refusal),
+        Ok(Phase::Reading) => 64,
+        Ok(Phase::AtCommand) => 65,
+        Ok(Phase::ObdCommand) => 66,
+        Err(refusal) => u8::from(refusal),
     }
 }
 
@@ -63,14 +64,12 @@ fn put_state(server: ServerSession, log: &mut [u8], at: usize) -> usize
     ensures { Put log.old at (server_entry (session server)) result log.new }
 {
     let state = server.state;
-    let turn = server.turn;
-    let phase = turn.phase;
     let first = [
         driver_log::flag(state.echo_enabled),
         driver_log::flag(state.linefeeds_enabled),
         driver_log::flag(state.spaces_enabled),
         driver_log::flag(state.headers_enabled),
-        phase_code(phase),
+        phase_code(server.turn.phase),
     ];
     let at = wire::put(log, at, &first);
     let at = put_last(state, log, at);
@@ -91,20 +90,16 @@ fn rare(
     match kind {
         5 => {
             let step = server.reject(arg, out);
-            let answer = step.answer;
-            let next = step.session;
             ServerTurn {
-                session: next,
-                at: driver_log::put_call(log, at, answer_code(answer), 0, out, step.written),
+                session: step.session,
+                at: driver_log::put_call(log, at, answer_code(step.answer), 0, out, step.written),
             }
         }
         6 => {
             let step = server.answer(arg, b"ELM327", out);
-            let answer = step.answer;
-            let next = step.session;
             ServerTurn {
-                session: next,
-                at: driver_log::put_call(log, at, answer_code(answer), 0, out, step.written),
+                session: step.session,
+                at: driver_log::put_call(log, at, answer_code(step.answer), 0, out, step.written),
             }
         }
         _ => ServerTurn {
@@ -129,18 +124,16 @@ fn run(server: ServerSession, script: &[u8], out: &mut [u8], log: &mut [u8]) -> 
         match kind {
             1 => {
                 let step = server.byte(driver_log::byte_of(&script[start..end], 0), out);
-                let answer = step.answer;
                 server = step.session;
-                at = driver_log::put_call(log, at, answer_code(answer), 0, out, step.written);
+                at = driver_log::put_call(log, at, answer_code(step.answer), 0, out, step.written);
             }
             2 => {
                 let step = server.bytes(&script[start..end], out);
-                let answer = step.answer;
                 server = step.session;
                 at = driver_log::put_call(
                     log,
                     at,
-                    answer_code(answer),
+                    answer_code(step.answer),
                     step.taken,
                     out,
                     step.written,
@@ -148,15 +141,13 @@ fn run(server: ServerSession, script: &[u8], out: &mut [u8], log: &mut [u8]) -> 
             }
             3 => {
                 let step = server.reply(&script[start..end], out);
-                let answer = step.answer;
                 server = step.session;
-                at = driver_log::put_call(log, at, answer_code(answer), 0, out, step.written);
+                at = driver_log::put_call(log, at, answer_code(step.answer), 0, out, step.written);
             }
             4 => {
                 let step = server.answer(b"ELM327 v1.5", &script[start..end], out);
-                let answer = step.answer;
                 server = step.session;
-                at = driver_log::put_call(log, at, answer_code(answer), 0, out, step.written);
+                at = driver_log::put_call(log, at, answer_code(step.answer), 0, out, step.written);
             }
             _ => {
                 let turn = rare(server, kind, &script[start..end], out, log, at);
@@ -184,10 +175,8 @@ pub fn run_rounds(
         logged_of (rounds (server_run again.now) times (server_run script.now (server_at fresh_session 0 out.old log.old))) }
 {
     let mut turn = run(ServerSession::new(), script, out, log);
-    let mut round: usize = 0;
-    while round < times {
+    for _ in 0..times {
         turn = run(turn.session, again, out, log);
-        round += 1;
     }
     turn.at
 }

@@ -4,14 +4,13 @@
 
 use reading::read_input;
 use std::io::{Read, Write};
-use wire::Count;
 
 // Prints what a script comes to.
 fn print_record<W: Write, E: Write>(script: &[u8], to: &mut W, told: &mut E) {
     let mut record = [0u8; 65536];
     // Three characters for each byte of the record, and a line for the number: no text is longer.
     let mut out = [0u8; 196620];
-    let Count::Is(end) = hire_text::hire_text(script, &mut record, &mut out) else {
+    let Ok(end) = hire_text::hire_text(script, &mut record, &mut out) else {
         return;
     };
     if to.write_all(&out[..end]).is_err() {
@@ -22,11 +21,9 @@ fn print_record<W: Write, E: Write>(script: &[u8], to: &mut W, told: &mut E) {
 fn main(rt: HostRuntime) {
     // One byte more than a script may have.
     let mut script = [0u8; 16385];
-    let input = read_input(&mut rt.stdin(), &mut script);
-    if input.failed {
+    let Ok(n) = read_input(&mut rt.stdin(), &mut script) else {
         let _ = rt.stderr().write_all(b"hire: cannot read the script\n");
         return;
-    }
-    let n = input.size;
+    };
     print_record(&script[..n], &mut rt.stdout(), &mut rt.stderr());
 }

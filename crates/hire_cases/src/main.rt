@@ -6,7 +6,6 @@ ghost use Rattle.std.specs.Prelude.{◌≤◌};
 
 use reading::read_input;
 use std::io::Write;
-use wire::Count;
 
 // Prints what `hire` prints for a script, with the first size bytes of a record buffer.
 fn print_case<W: Write>(script: &[u8], record: &mut [u8], size: usize, to: &mut W) {
@@ -14,7 +13,7 @@ fn print_case<W: Write>(script: &[u8], record: &mut [u8], size: usize, to: &mut 
         return;
     }
     let mut out = [0u8; 196620];
-    let Count::Is(end) = hire_text::hire_text(script, &mut record[..size], &mut out) else {
+    let Ok(end) = hire_text::hire_text(script, &mut record[..size], &mut out) else {
         return;
     };
     let _ = to.write_all(&out[..end]);
@@ -25,19 +24,19 @@ fn room_of(byte: u8) -> usize {
     if byte == 0 {
         return 65536;
     }
-    byte as usize
+    usize::from(byte)
 }
 
 fn length_of(high: u8, low: u8) -> usize
     ensures { result ≤ 65535 }
 {
-    high as usize * 256 + low as usize
+    usize::from(high) * 256 + usize::from(low)
 }
 
 fn main(rt: HostRuntime) {
     let mut to = rt.stdout();
     let mut input = [0u8; 32768];
-    let n = read_input(&mut rt.stdin(), &mut input).size;
+    let n = read_input(&mut rt.stdin(), &mut input).unwrap_or_else(|cut| cut.size);
     let mut record = [0u8; 65536];
     let mut at: usize = 0;
     while at + 3 <= n {

@@ -10,10 +10,8 @@ ghost use Rattle.bench.specs.Run.{run_answer, run_says};
 ghost use Rattle.hire_text.specs.Hire.{separator, hex_line, refused_line, text_of_record};
 ghost use Rattle.hire_text.specs.Steps.{AreParts, PartEnd};
 
-use bench::RunAnswer;
-use group::GroupRead;
-use value::{ValueCursor, ValueStep};
-use wire::{Count, Refusal};
+use value::ValueCursor;
+use wire::Refusal;
 
 // What stands in a line before the byte at i, or after the last.
 fn separator(bytes: &[u8], i: usize) -> u8
@@ -44,25 +42,15 @@ fn put_hex_line(out: &mut [u8], at: usize, bytes: &[u8]) -> usize
 fn part_end(bytes: &[u8], at: usize) -> usize
     ensures { PartEnd bytes.now at result }
 {
-    let GroupRead::Number { value, next } = group::read_group(bytes, at, bytes.len()) else {
+    let Ok(values) = group::read_group(bytes, at, bytes.len()) else {
         return bytes.len();
     };
-    let mut left = value;
-    let mut cursor = ValueCursor { at: next };
-    while 0 < left {
-        match cursor.step(bytes) {
-            ValueStep::Value {
-                pid: _,
-                ecu: _,
-                start: _,
-                next,
-            } => {
-                cursor = next;
-                left -= 1;
-            }
-            ValueStep::End => return bytes.len(),
-            ValueStep::Refused(_) => return bytes.len(),
-        }
+    let mut cursor = ValueCursor { at: values.next };
+    for _ in 0..values.value {
+        let Ok(Some(value)) = cursor.step(bytes) else {
+            return bytes.len();
+        };
+        cursor = value.next;
     }
     cursor.at
 }
@@ -91,33 +79,32 @@ fn put_refused(out: &mut [u8], at: usize, number: u8) -> usize
 }
 
 // The line that tells the number that ended a run, at the front of out; nothing where none did.
-fn put_stop(out: &mut [u8], answer: RunAnswer) -> usize
+fn put_stop(out: &mut [u8], answer: Result<(), Refusal>) -> usize
     ensures { Put out.old 0 (if_result (run_answer answer) refused_line (λ u. [])) result out.new }
 {
     match answer {
-        RunAnswer::Complete => 0,
-        RunAnswer::Refused(refusal) => put_refused(out, 0, wire::number(refusal)),
+        Ok(()) => 0,
+        Err(refusal) => put_refused(out, 0, u8::from(refusal)),
     }
 }
 
 // Runs a script with repeat on and no piece lengths, and writes its record's parts to out, a line each, and the number that ended the run; how many bytes that is, or
 // 6 where out is shorter.
 // The last line is written first elsewhere, and a part's line has three characters for each byte, so the size is known before anything is written to out.
-pub fn hire_text(script: &[u8], buffer: &mut [u8], out: &mut [u8]) -> Count
+pub fn hire_text(script: &[u8], buffer: &mut [u8], out: &mut [u8]) -> Result<usize, Refusal>
     ensures out_after { count_written result out.new ≡ put_whole out.old 0 (text_of_record (length buffer.old) script.now) }
     ensures buffer_after { buffer.new ≡ sets buffer.old 0 (joined (run_says true [] (length buffer.old) script.now).parts) }
 {
     let run = bench::run(script, b"", true, buffer);
     let end = run.written;
-    let answer = run.answer;
     let mut line = [0u8; 12];
-    let size = put_stop(&mut line, answer);
+    let size = put_stop(&mut line, run.answer);
     if out.len() < size {
-        return Count::Refused(Refusal::SmallBuffer);
+        return Err(Refusal::SmallBuffer);
     }
     if (out.len() - size) / 3 < end {
-        return Count::Refused(Refusal::SmallBuffer);
+        return Err(Refusal::SmallBuffer);
     }
     let last = put_parts(out, 0, &buffer[..end]);
-    Count::Is(wire::put(out, last, &line[..size]))
+    Ok(wire::put(out, last, &line[..size]))
 }

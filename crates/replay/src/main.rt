@@ -110,7 +110,7 @@ fn skip(list: &[u8], at: usize, n: usize) -> usize
 }
 
 fn number(low: u8, high: u8) -> usize {
-    low as usize + high as usize * 256
+    usize::from(low) + usize::from(high) * 256
 }
 
 // The entry that starts here.
@@ -235,7 +235,7 @@ fn head<W: Write>(to: &mut W, list: &[u8], entry: Entry, before: Tally, at: usiz
 fn main(rt: HostRuntime) {
     let mut to = rt.stdout();
     let mut list = [0u8; 262144];
-    let n = read_input(&mut rt.stdin(), &mut list).size;
+    let n = read_input(&mut rt.stdin(), &mut list).unwrap_or_else(|cut| cut.size);
     let mut store = [0u8; 4096];
     let mut out = [0u8; 65536];
     let mut log = [0u8; 65536];
