@@ -1,10 +1,9 @@
 -- When a log is the stored one, and where else they differ first.
-use Rattle.std.specs.Prelude.{cond, List, [], ◌∷◌, ℕ, suc, ◌+◌, ◌≤◌, eqb}
+use Rattle.std.specs.Prelude.{cond, List, [], ◌∷◌, ℕ, suc, ◌+◌, ◌≤◌, eqb, Option, Some, None}
 use Rattle.wire.specs.Text.{same}
 use Rattle.replay.specs.declared.Entry.{Entry}
+use Rattle.replay.specs.declared.Difference.{Difference}
 use Rattle.replay.specs.declared.Tally.{Tally}
-use Rattle.replay.specs.declared.Verdict.{Verdict}
-use Rattle.replay.specs.declared.Verdict.TheVariants as verdict
 
 -- in how many bytes two logs agree from their start
 abbrev pub agreeing : List ℕ → List ℕ → ℕ
@@ -12,14 +11,19 @@ agreeing [] t = 0
 agreeing (a ∷ s) [] = 0
 agreeing (a ∷ s) (b ∷ t) = cond (eqb a b) (suc (agreeing s t)) 0
 
-abbrev pub judged : List ℕ → List ℕ → Verdict
-judged ours stored = cond (same ours stored) verdict.Same (verdict.Differs (agreeing ours stored))
+-- where a log differs from the stored one, if it does
+abbrev pub judged : List ℕ → List ℕ → Option ℕ
+judged ours stored = cond (same ours stored) None (Some (agreeing ours stored))
 
--- one more case; the first that differs stays the first
-abbrev pub tallied : Tally → Verdict → Tally
-tallied t verdict.Same = record { cases = t.cases + 1; first = t.first; place = t.place }
-tallied t (verdict.Differs place) =
-    cond (eqb t.first 0) (record { cases = t.cases + 1; first = t.cases + 1; place = place }) (record { cases = t.cases + 1; first = t.first; place = t.place })
+-- the first that differs stays the first
+abbrev pub first_of : Option Difference → Option ℕ → ℕ → Option Difference
+first_of (Some d) differs case = Some d
+first_of None (Some place) case = Some (record { case = case; place = place })
+first_of None None case = None
+
+-- one more case
+abbrev pub tallied : Tally → Option ℕ → Tally
+tallied t differs = record { cases = t.cases + 1; first = first_of t.first differs (t.cases + 1) }
 
 -- an entry's texts stand one after the other inside the list
 pub record Within (at : ℕ) (e : Entry) (size : ℕ) : Type 0 where

@@ -21,84 +21,54 @@ struct Entry {
     next: usize,
 }
 
-// Whether a log is the stored one, or else in how many bytes they agree from their start.
+// A case whose log is not the stored one: its number under the heading, and in how many bytes the two agree from their start.
 #[derive(Clone, Copy)]
-enum Verdict {
-    Same,
-    Differs(usize),
+struct Difference {
+    case: usize,
+    place: usize,
 }
 
-// How many cases stand under a heading, and which of them is the first that differs, 0 for none, and where.
+// How many cases stand under a heading, and the first that differs.
 #[derive(Clone, Copy)]
 struct Tally {
     cases: usize,
-    first: usize,
-    place: usize,
+    first: Option<Difference>,
 }
 
 // In how many bytes two logs agree from their start.
 fn agreeing(ours: &[u8], stored: &[u8]) -> usize
     ensures { result ≡ agreeing ours.now stored.now }
 {
-    let mut i: usize = 0;
-    while i < ours.len() {
-        if stored.len() <= i {
-            return i;
-        }
-        if ours[i] != stored[i] {
-            return i;
-        }
-        i += 1;
-    }
-    i
+    ours.iter().zip(stored).take_while(|(a, b)| a == b).count()
 }
 
-fn judge(ours: &[u8], stored: &[u8]) -> Verdict
+// Where a log differs from the stored one, if it does.
+fn judge(ours: &[u8], stored: &[u8]) -> Option<usize>
     ensures { result ≡ judged ours.now stored.now }
 {
-    if wire::same(ours, stored) {
-        return Verdict::Same;
+    if ours == stored {
+        return None;
     }
-    Verdict::Differs(agreeing(ours, stored))
+    Some(agreeing(ours, stored))
 }
 
 fn no_cases() -> Tally
-    ensures { result ≡ record { cases = 0; first = 0; place = 0 } }
+    ensures { result ≡ record { cases = 0; first = None } }
 {
     Tally {
         cases: 0,
-        first: 0,
-        place: 0,
+        first: None,
     }
 }
 
 // One more case.
-fn add_case(before: Tally, verdict: Verdict) -> Tally
+fn add_case(before: Tally, differs: Option<usize>) -> Tally
     requires { before.cases ≤ 262144 }
-    ensures { result ≡ tallied before verdict }
+    ensures { result ≡ tallied before differs }
 {
-    let cases = before.cases + 1;
-    match verdict {
-        Verdict::Same => Tally {
-            cases,
-            first: before.first,
-            place: before.place,
-        },
-        Verdict::Differs(place) => {
-            if before.first == 0 {
-                return Tally {
-                    cases,
-                    first: cases,
-                    place,
-                };
-            }
-            Tally {
-                cases,
-                first: before.first,
-                place: before.place,
-            }
-        }
-    }
+    let case = before.cases + 1;
+    let first = before.first.or(differs.map(|place| Difference { case, place }));
+    Tally { cases: case, first }
 }
 
 // The place so many bytes on, or the end.
@@ -147,11 +117,7 @@ fn run_bench(
 
 // Whether the client session of a kind asks for CAN headers: 3 and 5 of 2 to 5.
 fn asks_framing(kind: u8) -> bool {
-    match kind {
-        3 => true,
-        5 => true,
-        _ => false,
-    }
+    matches!(kind, 3 | 5)
 }
 
 // Runs a case by its kind, and answers the length of its log. 1 is a server session, 2 to 5 a client session, of which 4 and 5 repeat queries, and the others are
@@ -182,38 +148,32 @@ fn replay(
     store: &mut [u8],
     out: &mut [u8],
     log: &mut [u8],
-) -> Verdict
+) -> Option<usize>
     requires { Within at entry (length list.now) }
 {
-    let pieces = entry.pieces;
-    let script = entry.script;
-    let stored = entry.stored;
-    let next = entry.next;
     let written = run(
         entry.kind,
         entry.room,
-        &list[pieces..script],
-        &list[script..stored],
+        &list[entry.pieces..entry.script],
+        &list[entry.script..entry.stored],
         store,
         out,
         log,
     );
     let size = wire::at_most(written, log.len());
-    judge(&log[..size], &list[stored..next])
+    judge(&log[..size], &list[entry.stored..entry.next])
 }
 
 // What is said of the cases under a heading.
 fn print_tally<W: Write>(to: &mut W, tally: Tally) {
     let cases = tally.cases;
-    let first = tally.first;
-    let place = tally.place;
-    if first == 0 {
+    let Some(Difference { case, place }) = tally.first else {
         let _ = writeln!(to, "{cases} cases, no difference");
         return;
-    }
+    };
     let _ = writeln!(
         to,
-        "{cases} cases, case {first} differs at byte {place} of its log"
+        "{cases} cases, case {case} differs at byte {place} of its log"
     );
 }
 
@@ -225,9 +185,7 @@ fn head<W: Write>(to: &mut W, list: &[u8], entry: Entry, before: Tally, at: usiz
     if at != 0 {
         print_tally(to, before);
     }
-    let start = entry.stored;
-    let end = entry.next;
-    let _ = to.write_all(&list[start..end]);
+    let _ = to.write_all(&list[entry.stored..entry.next]);
     let _ = to.write_all(b": ");
     no_cases()
 }
@@ -246,8 +204,8 @@ fn main(rt: HostRuntime) {
         if entry.kind == 0 {
             under = head(&mut to, &list[..n], entry, under, at);
         } else {
-            let verdict = replay(&list[..n], entry, at, &mut store, &mut out, &mut log);
-            under = add_case(under, verdict);
+            let differs = replay(&list[..n], entry, at, &mut store, &mut out, &mut log);
+            under = add_case(under, differs);
         }
         at = entry.next;
     }
