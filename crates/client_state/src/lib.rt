@@ -49,9 +49,7 @@ impl ClientState {
         ensures { settings result ≡ with_last (settings self) command.now }
     {
         let mut next = self;
-        let mut last = self.last_obd_command;
-        next.last_len = wire::put(&mut last, 0, command);
-        next.last_obd_command = last;
+        next.last_len = wire::put(&mut next.last_obd_command, 0, command);
         next
     }
 }

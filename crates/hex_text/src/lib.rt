@@ -8,6 +8,7 @@ ghost use Rattle.hex_text.specs.Digits.{hex_digit, hex_digits, hex_byte};
 ghost use Rattle.wire.specs.Answer.{number_of};
 
 // The number of a digit, 0 to 9, A to F or a to f; none for a bad one.
+#[tactic(auto, unfolding(crate::specs::Read::digit))]
 pub fn hex_digit(c: u8) -> Option<u8>
     ensures { number_of result ≡ digit c }
 {
@@ -38,6 +39,7 @@ pub fn hex_id(a: u8, b: u8, c: u8) -> Option<u16>
 }
 
 // The capital digit of a number's low half.
+#[tactic(auto, unfolding(crate::specs::Digits::hex_digit))]
 pub fn hex_char(n: u8) -> u8
     ensures { result ≡ hex_digit (n % 16) }
 {
