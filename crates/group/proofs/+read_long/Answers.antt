@@ -1,7 +1,8 @@
 use native.Mathlib.Omega.{arith}
-use mathlib.Core.Path.{sym, ◌∙◌}
+use mathlib.Core.Path.{sym, ap, ◌∙◌}
 use Rattle.std.proofs.Common.{◌≡◌, ◌<◌, ◌≤◌, ℕ, List, length, get_or, Fits, w8}
-use Rattle.std.proofs.lemmas.Result.{err_from_is_err_and}
+use Rattle.wire.proofs.TryLaws.{passed_on}
+use Rattle.group.specs.Answers.{group_read}
 use Rattle.group.proofs.AtLaws.{Longer, at_end, at_one, at_low, high_none, high_zero, high_more, number_at}
 use Rattle.group.proofs.+read_long.Goals as goal
 
@@ -20,8 +21,7 @@ returns-then-limit-lt128 t c = sym (at_low _ _ _ c.if-s-at.false c.from-low.ensu
 pub returns-in_err-high : goal.returns-in_err-high
 returns-in_err-high t c =
     let long = longer c.if-s-at.false c.from-low.ensures c.if-low-lt128.false (c.type_inv.s c.args.at) c.if-limit-lt128.false in
-    let p = err_from_is_err_and c.from_residual.result c.from_residual.ensures.1 in
-    rw (p.1, p.2) (sym (high_none long _ c.in_err-high.ensures))
+    ap group_read (passed_on c.from_residual.ensures) ∙ sym (high_none long _ c.in_err-high.ensures)
 
 pub returns-then-high-eq0 : goal.returns-then-high-eq0
 returns-then-high-eq0 t c =
