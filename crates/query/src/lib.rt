@@ -17,10 +17,8 @@ fn put_pids(out: &mut [u8], at: usize, pids: &[u8]) -> usize
     ensures { Put out.old at (hex_bytes pids.now) result out.new }
 {
     let mut at = at;
-    let mut i: usize = 0;
-    while i < pids.len() {
-        at = hex_text::put_hex_byte(out, at, pids[i]);
-        i += 1;
+    for &pid in pids {
+        at = hex_text::put_hex_byte(out, at, pid);
     }
     at
 }
