@@ -115,7 +115,7 @@ pub fn same(s: &[u8], text: &[u8]) -> bool
 }
 
 // Whether the byte stands in s. The loop has one way out, so that it takes many bytes in one step of the machine; std's contains is slower from
-// 128 bytes on, and any at every length.
+// 128 bytes on, and any from 16.
 pub fn has(s: &[u8], byte: u8) -> bool
     ensures { result ≡ has byte s.now }
 {
