@@ -41,10 +41,14 @@ answer_as say (Err r) = refused (number r)
 abbrev pub count_answer : Result ℕ Refusal → Answer ℕ
 count_answer r = answer_as (λ n. n) r
 
--- the cases of an answer that says whether there is a number
+-- the cases of an answer that says whether there is something
+abbrev pub option_as : {A B : Type 0} → (A → B) → rust.Option A → Option B
+option_as say (rust.Some a) = some (say a)
+option_as say rust.None = none
+
+-- the same of one that says whether there is a number
 abbrev pub number_of : rust.Option ℕ → Option ℕ
-number_of (rust.Some n) = some n
-number_of rust.None = none
+number_of o = option_as (λ n. n) o
 
 -- "The first that applies": the number of the first row whose test is met, and with none what is said.
 unfoldable pub unless : {X : Type 0} → List (Bool × ℕ) → (ℕ → X) → X → X

@@ -5,12 +5,12 @@ use Rattle.hex_text.proofs.ReadLaws.{below_at, digit_small}
 use Rattle.hex_text.proofs.hex_pair.Goals as goal
 
 pub overflow_mul-result : goal.overflow_mul-result
-overflow_mul-result c = omega (arith, below_at 16 (digit_small c.args.a) (sym c.in_ok-high.ensures))
+overflow_mul-result c = omega (arith, below_at 16 (digit_small _) (sym c.in_ok-high.ensures))
 
 pub overflow_add-result : goal.overflow_add-result
 overflow_add-result c =
     omega (
       arith,
-      below_at 16 (digit_small c.args.a) (sym c.in_ok-high.ensures),
-      below_at 16 (digit_small c.args.b) (sym c.in_ok-low.ensures),
+      below_at 16 (digit_small _) (sym c.in_ok-high.ensures),
+      below_at 16 (digit_small _) (sym c.in_ok-low.ensures),
     )

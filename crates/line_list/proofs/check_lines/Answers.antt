@@ -1,33 +1,27 @@
-use mathlib.Core.Path.{sym, ◌∙◌}
-use native.Mathlib.Omega.{arith}
+use mathlib.Core.Path.{sym, ap, ◌∙◌}
+use Rattle.wire.specs.Answer.{count_answer}
+use Rattle.wire.proofs.TryLaws.{passed_on}
 use Rattle.line_list.proofs.StepLaws.{step_line, step_end, step_none}
 use Rattle.line_list.proofs.CheckLaws.{count_start, count_line, count_end, count_none, count_full}
 use Rattle.line_list.proofs.check_lines.Goals as goal
 
 pub loop-lines-init : goal.loop-lines-init
-loop-lines-init c = (omega arith, count_start _ _ c.new-cursor.ensures)
+loop-lines-init c = count_start _ _ c.new-cursor.ensures
 
-pub loop-lines-smaller : goal.loop-lines-smaller
-loop-lines-smaller c = omega (arith, c.loop-lines-test.true)
+pub returns-in_err-line : goal.returns-in_err-line
+returns-in_err-line c =
+    let n = step_none _ _ _ c.in_err-line.ensures in
+    ap count_answer (passed_on c.from_residual.ensures) ∙ sym (count_none c.loop-lines.lines _ _ c.loop-lines-test.true n.0 n.1) ∙ c.loop-lines.invariant
+
+pub returns-in_default : goal.returns-in_default
+returns-in_default c =
+    let loop = c.loop-lines in
+    sym (count_end loop.lines _ _ (step_end _ _ (rw c.in_default.is at c.in_ok-line.ensures))) ∙ loop.invariant
 
 pub loop-lines-preserved : goal.loop-lines-preserved
 loop-lines-preserved c =
-    let test = c.loop-lines-test.true in
-    let line = step_line _ _ c.step.ensures c.in-Line.is in
-    (omega (arith, test), sym (count_line c.loop-lines.lines _ _ _ _ _ test line) ∙ c.loop-lines.invariant.1)
-
-pub returns-in-End : goal.returns-in-End
-returns-in-End c =
-    let loop = c.loop-lines in
-    sym (count_end loop.lines _ _ (step_end _ _ c.step.ensures c.in-End.is)) ∙ loop.invariant.1
-
-pub returns-in-Refused : goal.returns-in-Refused
-returns-in-Refused c =
-    let n = step_none _ _ c.step.ensures c.in-Refused.is in
-    sym (count_none c.loop-lines.lines _ _ c.loop-lines-test.true n.0 n.1) ∙ c.loop-lines.invariant.1
-
-pub returns-then-list-cursor : goal.returns-then-list-cursor
-returns-then-list-cursor c = sym (count_end c.loop-lines.lines _ _ c.if-list-cursor.true) ∙ c.loop-lines.invariant.1
+    let line = step_line _ _ (rw c.in-Some.is at c.in_ok-line.ensures) in
+    sym (count_line c.loop-lines.lines _ _ _ _ _ c.loop-lines-test.true line) ∙ c.loop-lines.invariant
 
 pub returns : goal.returns
-returns c = sym (count_full c.loop-lines.lines _ _ c.loop-lines-test.false c.if-list-cursor.false) ∙ c.loop-lines.invariant.1
+returns c = sym (count_full c.loop-lines.lines _ _ c.loop-lines-test.false c.if-list-cursor.false) ∙ c.loop-lines.invariant
