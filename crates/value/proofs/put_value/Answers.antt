@@ -6,5 +6,5 @@ use Rattle.value.proofs.put_value.Goals as goal
 pub returns : goal.returns
 unfolding value_format
 returns c =
-    put_then c.put_byte-at.ensures (put_then c.put_group-at.ensures (put_then c.put_group-at-2.ensures
+    put_then c.put_byte-at.ensures (put_then (rw c.from.ensures at c.put_group-at.ensures) (put_then c.put_group-at-2.ensures
     (put_then c.put_byte-at-2.ensures (put_then c.put_byte-start.ensures c.put.ensures))))

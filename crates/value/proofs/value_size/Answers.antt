@@ -1,6 +1,6 @@
 -- `value::value_size` meets its contract.
 -- a number's size, as `group_size` gives it, is small
-use mathlib.Core.Path.{◌≡◌, ap}
+use mathlib.Core.Path.{◌≡◌, sym, ap, ◌∙◌}
 use Prim.Native.Nat.{ℕ, ◌+◌, ◌^◌, ◌≤◌, ◌<◌}
 use native.Mathlib.Omega.{arith}
 use lib.ListN.{length}
@@ -23,4 +23,6 @@ pub overflow_add-result-3 : goal.overflow_add-result-3
 overflow_add-result-3 c = omega (arith, short _ c.group_size.ensures (omega arith), short _ c.group_size-2.ensures (omega arith))
 
 pub returns : goal.returns
-returns c = λ p d q. omega (arith, value-length (value p c.args.ecu d), c.group_size.ensures, c.group_size-2.ensures, ap (λ n. length (group_bytes (2 + n))) q)
+returns c = λ p d q.
+    let first = rw c.from.ensures at c.group_size.ensures in
+    omega (arith, value-length (value p c.args.ecu d), c.from-len.ensures, c.group_size-2.ensures, ap (λ n. length (group_bytes (2 + n))) (c.from-len.ensures ∙ sym q))
