@@ -1,15 +1,20 @@
 -- Laws of the commands' texts.
-use mathlib.Core.Path.{◌≡◌, refl, sym, ◌∙◌}
+use mathlib.Core.Path.{◌≡◌, refl, sym, ap, ◌∙◌}
 use mathlib.Core.Bool.{Bool, true, false, cond}
 use mathlib.Core.List.{List, [], ◌∷◌, ◌++◌, map}
-use Prim.Native.Nat.{ℕ, zero, suc, ◌+◌, ◌-◌, ◌≤◌, ◌<◌}
+use Prim.Native.Nat.{ℕ, zero, suc, ◌+◌, ◌-◌, ◌≤◌}
 use native.Mathlib.Omega.{arith}
 use lib.Dec.{eqb}
-use lib.ListN.{length, drop, get_or, length-append, length-map, get_or-map}
-use borrow.Author.Tests.{eq-eqb, ne_eqb}
-use Rattle.wire.specs.Text.{ascii, begins, raised}
-use Rattle.wire.proofs.Cases.{by_test}
-use Rattle.wire.proofs.TextLaws.{same-begins, same-long, begins_differ, begins-next}
+use lib.ListN.{length, get_or, length-append, drop_of_length-le}
+use borrow.Author.Tests.{eq-eqb, ne_eqb, eqb-true, eqb-false}
+use Rattle.wire.specs.Text.{ascii, raised}
+use Rattle.wire.proofs.Cases.{by_test, from_no}
+use Rattle.wire.proofs.TextLaws.{same_self, same_true}
+use Rattle.std.specs.Prelude.{IsTrue, ◌↔◌}
+use Rattle.std.specs.Char.{to_ascii_lowercase}
+use Rattle.std.specs.List.{ends_with}
+use lib.Seq.{drop-cons}
+use Rattle.std.proofs.lemmas.Bool.Decides.{nat_tests}
 use Rattle.client_command.specs.Commands.{with_cr, is_command, setup_text}
 
 -- a raw command's text by its last byte
@@ -23,28 +28,48 @@ pub cr_alone : (s : List ℕ) → length s ≡ 0 → with_cr s ≡ s ++ (13 ∷ 
 cr_alone [] e = refl
 cr_alone (b ∷ s) e = absurd (omega arith)
 
+-- and by std's test of it
+pub cr_tested : (s : List ℕ) → ends_with eqb s (13 ∷ []) ≡ eqb (get_or s (length s - 1) 0) 13
+cr_tested [] = refl
+cr_tested (b ∷ s) =
+    let n : suc (length s) - 1 ≡ length s = omega arith in
+    rw (n, drop-cons (b ∷ s) (length s) 0 (omega arith), drop_of_length-le (b ∷ s) {i = suc (length s)} (omega arith))
+    (by_test (eqb (get_or (b ∷ s) (length s) 0) 13)
+    (λ e. rw (e, eq-eqb 13 (get_or (b ∷ s) (length s) 0) (sym (eqb-true (get_or (b ∷ s) (length s) 0) 13 e))))
+    (λ e. rw (e, ne_eqb 13 (get_or (b ∷ s) (length s) 0) (λ q. eqb-false (get_or (b ∷ s) (length s) 0) 13 e (sym q)))))
+
 -- which has at most one byte more
 pub cr_length : (s : List ℕ) → length (with_cr s) ≤ length s + 1
 cr_length s = by_test (eqb (get_or s (length s - 1) 0) 13) (λ e. rw e (omega arith)) (λ e. rw e (omega (arith, length-append s (13 ∷ []))))
 
--- `is_command` at a position
-raised_at : (s : List ℕ) (i : ℕ) → get_or (map raised s) i 0 ≡ raised (get_or s i 0)
+-- std compares by small letters, and so finds a command that is a text of capitals
+small_raised : (c : ℕ) → to_ascii_lowercase (raised c) ≡ to_ascii_lowercase c
 unfolding raised
-raised_at s i = get_or-map raised s i 0
+small_raised c = grind (arith, nat_tests)
 
-module _ (s t : List ℕ) (i : ℕ) where
-  pub raised_differ : i < length s → i < length t → (raised (get_or s i 0) ≡ get_or t i 0 → ⊥) → begins (drop i (map raised s)) (drop i t) ≡ false
-  raised_differ h k ne = begins_differ (map raised s) t i (omega (arith, length-map s raised)) k (λ e. ne (sym (raised_at s i) ∙ e))
+raised_small : (c : ℕ) → raised (to_ascii_lowercase c) ≡ raised c
+unfolding raised
+raised_small c = grind (arith, nat_tests)
 
-  pub raised-next : i < length s → i < length t → raised (get_or s i 0) ≡ get_or t i 0 →
-      begins (drop i (map raised s)) (drop i t) ≡ begins (drop (i + 1) (map raised s)) (drop (i + 1) t)
-  raised-next h k e = begins-next (map raised s) t i (omega (arith, length-map s raised)) k (raised_at s i ∙ e)
+all_small : (s : List ℕ) → map to_ascii_lowercase (map raised s) ≡ map to_ascii_lowercase s
+all_small [] = refl
+all_small (c ∷ s) = rw (small_raised c, all_small s)
 
-pub command_begins : (s t : List ℕ) → length s ≡ length t → is_command s t ≡ begins (map raised s) t
-command_begins s t h = same-begins (map raised s) t (length-map s raised ∙ h)
+all_raised : (s : List ℕ) → map raised (map to_ascii_lowercase s) ≡ map raised s
+all_raised [] = refl
+all_raised (c ∷ s) = rw (raised_small c, all_raised s)
 
-pub command_long : (s t : List ℕ) → (length s ≡ length t → ⊥) → is_command s t ≡ false
-command_long s t ne = same-long (map raised s) t (λ e. ne (sym (length-map s raised) ∙ e))
+pub command_found : (s t : List ℕ) (r : Bool) → map raised t ≡ t → IsTrue r ↔ (map to_ascii_lowercase s ≡ map to_ascii_lowercase t) → is_command s t ≡ r
+command_found s t true u e =
+    let w : map raised s ≡ t = sym (all_raised s) ∙ ap (map raised) (e.0 refl) ∙ all_raised t ∙ u in
+    rw w (same_self t)
+command_found s t false u e =
+    by_test (is_command s t)
+    (λ h.
+    let w : map raised s ≡ t = same_true (map raised s) t h in
+    let z : false ≡ true = e.1 (sym (all_small s) ∙ ap (map to_ascii_lowercase) w) in
+    from_no cc)
+    (λ h. h)
 
 -- the last command of the initialisation
 pub setup_last : (framing : Bool) (k : ℕ) → (k ≡ 0 → ⊥) → (k ≡ 1 → ⊥) → (k ≡ 2 → ⊥) → (k ≡ 3 → ⊥) → setup_text framing k ≡ cond framing (ascii "ATH1\r") (ascii "ATH0\r")

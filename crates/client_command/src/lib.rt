@@ -3,7 +3,7 @@
 
 ghost use Rattle.std.specs.Prelude.{◌≡◌};
 ghost use Rattle.wire.specs.Put.{Put};
-ghost use Rattle.client_command.specs.Commands.{with_cr, is_command, framing_effect, setup_text};
+ghost use Rattle.client_command.specs.Commands.{with_cr, framing_effect, setup_text};
 
 // What a completed raw command does to framing.
 #[derive(Clone, Copy)]
@@ -15,27 +15,14 @@ pub enum FramingEffect {
     Off,
 }
 
-// Whether a command is a text of capitals, in any case of its letters.
-fn is_command(command: &[u8], text: &[u8]) -> bool
-    ensures { result ≡ is_command command.now text.now }
-{
-    if command.len() != text.len() {
-        return false;
-    }
-    command.iter().zip(text).all(|(&b, &capital)| wire::raise(b) == capital)
-}
-
 // What a raw command does to framing once it is complete. One with a CR of its own does nothing.
 pub fn framing_effect(command: &[u8]) -> FramingEffect
     ensures { result ≡ framing_effect command.now }
 {
-    if is_command(command, b"ATH1") {
+    if command.eq_ignore_ascii_case(b"ATH1") {
         return FramingEffect::On;
     }
-    if is_command(command, b"ATH0") {
-        return FramingEffect::Off;
-    }
-    if is_command(command, b"ATZ") {
+    if command.eq_ignore_ascii_case(b"ATH0") || command.eq_ignore_ascii_case(b"ATZ") {
         return FramingEffect::Off;
     }
     FramingEffect::Kept
@@ -46,10 +33,10 @@ pub fn put_command(out: &mut [u8], at: usize, command: &[u8]) -> usize
     ensures { Put out.old at (with_cr command.now) result out.new }
 {
     let at = wire::put(out, at, command);
-    match command {
-        [.., b'\r'] => at,
-        _ => wire::put_byte(out, at, b'\r'),
+    if command.ends_with(b"\r") {
+        return at;
     }
+    wire::put_byte(out, at, b'\r')
 }
 
 // The last command of the initialisation: ATH1 or ATH0.

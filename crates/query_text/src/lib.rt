@@ -1,7 +1,7 @@
 // The text of a query as a session keeps it: of the one under way, and of the last one.
 #![tactic(auto)]
 
-ghost use Rattle.std.specs.Prelude.{◌≡◌, [], ◌∷◌, ◌++◌, min, take};
+ghost use Rattle.std.specs.Prelude.{◌≡◌, [], ◌∷◌, ◌++◌, take};
 ghost use Rattle.wire.specs.Put.{Put};
 ghost use Rattle.wire.specs.Text.{same};
 ghost use Rattle.query.specs.Query.{count_of, text_of_query};
@@ -34,24 +34,24 @@ impl QueryText {
         QueryText { bytes, len }
     }
 
-    // How many bytes the text has, whatever len holds.
-    fn size(self) -> usize
-        ensures { result ≡ min self.len 18 }
+    // The text, whatever len holds.
+    fn text(&self) -> &[u8]
+        ensures { result.now ≡ text self.now }
     {
-        self.len.min(18)
+        &self.bytes[..self.len.min(18)]
     }
 
     pub fn is(self, other: QueryText) -> bool
         ensures { result ≡ same (text self) (text other) }
     {
-        wire::same(&self.bytes[..self.size()], &other.bytes[..other.size()])
+        wire::same(self.text(), other.text())
     }
 
     // The text and CR, from position at on.
     pub fn put_line(self, out: &mut [u8], at: usize) -> usize
         ensures { Put out.old at (text self ++ (13 ∷ [])) result out.new }
     {
-        let at = wire::put(out, at, &self.bytes[..self.size()]);
+        let at = wire::put(out, at, self.text());
         wire::put_byte(out, at, b'\r')
     }
 }

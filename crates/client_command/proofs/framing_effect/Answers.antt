@@ -1,33 +1,32 @@
--- `client_command::framing_effect` meets its contract.
-use mathlib.Core.Path.{sym, ◌∙◌}
+-- `client_command::framing_effect` meets its contract: each test says whether the command is the text.
+use mathlib.Core.Path.{refl, ◌∙◌}
+use Rattle.wire.specs.Text.{ascii, raised}
 use Rattle.client_command.specs.Commands.{framing_effect}
+use Rattle.client_command.proofs.CommandLaws.{command_found}
 use Rattle.client_command.proofs.framing_effect.Goals as goal
+use Rattle.client_command.proofs.framing_effect.Goals.{then-eq_ignore_ascii_case-2-via-then-eq_ignore_ascii_case-2, then-eq_ignore_ascii_case-2-via-else-eq_ignore_ascii_case-2+then-eq_ignore_ascii_case-3}
 
-pub returns-then-is_command : goal.returns-then-is_command
-unfolding framing_effect
-returns-then-is_command c = simp (sym c.is_command.ensures ∙ c.if-is_command.true)
+pub returns-then-eq_ignore_ascii_case : goal.returns-then-eq_ignore_ascii_case
+unfolding framing_effect raised
+returns-then-eq_ignore_ascii_case c = simp (command_found _ (ascii "ATH1") _ refl c.eq_ignore_ascii_case.ensures.test ∙ c.if-eq_ignore_ascii_case.true)
 
-pub returns-then-is_command-2 : goal.returns-then-is_command-2
-unfolding framing_effect
-returns-then-is_command-2 c =
-    let at-if1 = c in
-    let at-is-command = at-if1 in
-    simp (sym at-is-command.is_command.ensures ∙ at-if1.if-is_command.false, sym c.is_command-2.ensures ∙ c.if-is_command-2.true)
-
-pub returns-then-is_command-3 : goal.returns-then-is_command-3
-unfolding framing_effect
-returns-then-is_command-3 c =
-    let at-if2 = c in
-    let at-is-command2 = at-if2 in
-    let at-if1 = at-is-command2 in
-    let at-is-command = at-if1 in
-    simp (sym at-is-command.is_command.ensures ∙ at-if1.if-is_command.false, sym at-is-command2.is_command-2.ensures ∙ at-if2.if-is_command-2.false, sym c.is_command-3.ensures ∙ c.if-is_command-3.true)
+pub returns-then-eq_ignore_ascii_case-2 : goal.returns-then-eq_ignore_ascii_case-2
+unfolding framing_effect raised
+returns-then-eq_ignore_ascii_case-2 c =
+    let no = command_found c.args.command.now (ascii "ATH1") _ refl c.eq_ignore_ascii_case.ensures.test ∙ c.if-eq_ignore_ascii_case.false in
+    elim c.then-eq_ignore_ascii_case-2.branch [
+      | then-eq_ignore_ascii_case-2-via-then-eq_ignore_ascii_case-2 w ↦ simp (no, command_found _ (ascii "ATH0") _ refl c.eq_ignore_ascii_case-2.ensures.test ∙ w.if-eq_ignore_ascii_case-2.true)
+      | then-eq_ignore_ascii_case-2-via-else-eq_ignore_ascii_case-2+then-eq_ignore_ascii_case-3 w ↦ simp (
+        no,
+        command_found _ (ascii "ATH0") _ refl c.eq_ignore_ascii_case-2.ensures.test ∙ w.if-eq_ignore_ascii_case-2.false,
+        command_found _ (ascii "ATZ") _ refl w.eq_ignore_ascii_case-else-eq_ignore_ascii_case-2.ensures.test ∙ w.if-eq_ignore_ascii_case-3.true,
+      )
+    ]
 
 pub returns : goal.returns
-unfolding framing_effect
-returns c =
-    let at-if2 = c in
-    let at-is-command2 = at-if2 in
-    let at-if1 = at-is-command2 in
-    let at-is-command = at-if1 in
-    simp (sym at-is-command.is_command.ensures ∙ at-if1.if-is_command.false, sym at-is-command2.is_command-2.ensures ∙ at-if2.if-is_command-2.false, sym c.is_command-3.ensures ∙ c.if-is_command-3.false)
+unfolding framing_effect raised
+returns c = simp (
+  command_found _ (ascii "ATH1") _ refl c.eq_ignore_ascii_case.ensures.test ∙ c.if-eq_ignore_ascii_case.false,
+  command_found _ (ascii "ATH0") _ refl c.eq_ignore_ascii_case-2.ensures.test ∙ c.if-eq_ignore_ascii_case-2.false,
+  command_found _ (ascii "ATZ") _ refl c.eq_ignore_ascii_case-else-eq_ignore_ascii_case-2.ensures.test ∙ c.if-eq_ignore_ascii_case-3.false,
+)
