@@ -22,10 +22,10 @@ use Rattle.server_state.specs.declared.ServerState.{ServerState}
 use Rattle.reply_values.specs.Learn.{lengths_after, learn_counts, multi_after}
 use Rattle.reply_values.specs.Read.{Reading, reading, ReadServed, read_reply}
 use Rattle.reply_values.specs.declared.Tally.{Tally}
-use Rattle.reply_values.specs.Steps.{no_values, PutValues, RoomIn}
+use Rattle.reply_values.specs.Steps.{no_values, PutValues, Stored, RoomIn, with_values}
 use Rattle.reply_values.proofs.OrderLaws.{order_size, order_fit}
 use Rattle.reply_values.proofs.SizeLaws.{reply_size_lem}
-use Rattle.reply_values.proofs.TallyLaws.{tallied_all}
+use Rattle.reply_values.proofs.TallyLaws.{bytes_many, tallied_all}
 use Rattle.reply_values.proofs.WalkLaws.{KnownEcus, values_fit}
 
 -- The whole
@@ -49,6 +49,16 @@ text_room framing text lengths short n room = record {
   room = omega (arith, reply_size_lem lengths framing text short);
   ecus = values_fit lengths (lines_of_reply framing text) (reply-known framing text);
 }
+
+-- they are what is found there
+pub stored_found : {vs us : List Value} {r s : Stored} {n : ℕ} → s ≡ record { values = []; size = n } → r ≡ with_values s us → vs ≡ r.values → vs ≡ us
+stored_found {us = us} s r v = v ∙ ap Stored.values (r ∙ ap (λ s. with_values s us) s)
+
+-- a value has five bytes at least
+pub text_few : (framing : Bool) (text lengths : List ℕ) → length text ≤ 4096 → (n : ℕ) → 3 * length text + 3 ≤ n →
+    5 * length (values_of lengths (lines_of_reply framing text)) ≤ n
+text_few framing text lengths short n room =
+    omega (arith, bytes_many (values_of lengths (lines_of_reply framing text)), (text_room framing text lengths short n room).room)
 
 -- what a number comes to, and what is read where none applies
 abbrev unread_for : ServerState → ℕ → List ℕ → ReadServed
