@@ -62,19 +62,6 @@ pub walked_none : (lengths : List ℕ) (e : ℕ) (s : List ℕ) → length s < 1
 walked_none lengths e [] h = walked-nil lengths e
 walked_none lengths e (p ∷ s) h = absurd (omega arith)
 
--- a line gives no value unless it starts with 41; then what stands after that does
-pub line_none : (lengths : List ℕ) (e : ℕ) (l : List ℕ) → length l ≡ 0 → line_values lengths e l ≡ []
-line_none lengths e [] h = refl
-line_none lengths e (m ∷ s) h = absurd (omega arith)
-
-pub line_other : (lengths : List ℕ) (e : ℕ) (l : List ℕ) → (get_or l 0 0 ≡ 0x41 → ⊥) → line_values lengths e l ≡ []
-line_other lengths e [] h = refl
-line_other lengths e (m ∷ s) h = rw (ne_eqb m 0x41 h)
-
-pub line-walked : (lengths : List ℕ) (e : ℕ) (l : List ℕ) → get_or l 0 0 ≡ 0x41 → line_values lengths e l ≡ walked lengths e (take (length l - 1) (drop 1 l))
-line-walked lengths e [] h = absurd (omega arith)
-line-walked lengths e (m ∷ s) h = rw (eq-eqb m 0x41 h, take_all (suc (length s) - 1) s (omega arith))
-
 -- values as they are written, and then others
 pub bytes_append : (vs ws : List Value) → values_bytes (vs ++ ws) ≡ values_bytes vs ++ values_bytes ws
 bytes_append [] ws = refl
