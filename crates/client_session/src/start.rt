@@ -22,7 +22,7 @@ fn init_verdict(under: Under, room: usize) -> Result<(), Refusal>
     ensures says { (c : Client) → c.under ≡ under → init_says room c ≡ settled result (client_refusing c) (sends c Command.Reset (ascii "ATZ\r")) }
     ensures early { Early result }
 {
-    if !crate::is_idle(under) {
+    if !under.is_idle() {
         return Err(Refusal::OutOfTurn);
     }
     if room < 80 {
@@ -38,7 +38,7 @@ fn command_verdict(under: Under, command: &[u8], room: usize) -> Result<(), Refu
         settled result (client_refusing c) (sends (with_last_query c []) (Command.Raw (framing_effect command.now)) (with_cr command.now)) }
     ensures early { Early result }
 {
-    if !crate::is_idle(under) {
+    if !under.is_idle() {
         return Err(Refusal::OutOfTurn);
     }
     if 64 < command.len() {
@@ -61,13 +61,10 @@ fn query_verdict(under: Under, pids: &[u8], room: usize) -> Result<(), Refusal>
     ensures early { Early result }
     ensures at_most_six { result ≡ Ok tt → length pids.now ≤ 6 }
 {
-    if !crate::is_idle(under) {
+    if !under.is_idle() {
         return Err(Refusal::OutOfTurn);
     }
-    if pids.is_empty() {
-        return Err(Refusal::PidCount);
-    }
-    if 6 < pids.len() {
+    if pids.is_empty() || 6 < pids.len() {
         return Err(Refusal::PidCount);
     }
     if room < 80 {
@@ -116,9 +113,8 @@ impl ClientSession {
         ensures { client result ≡ with_query (client self) (request pids.now (count_of count) several) }
     {
         self.query = QueryText::of(pids, count);
-        let mut own = [0u8; 6];
-        self.pids_len = wire::put(&mut own, 0, pids);
-        self.pids = own;
+        self.pids = [0; 6];
+        self.pids_len = wire::put(&mut self.pids, 0, pids);
         self.several = several;
         self
     }
