@@ -13,7 +13,6 @@ ghost use Rattle.client_session.specs.Steps.{Does, Early};
 
 use crate::{ClientSession, ClientStep, Command, Under};
 use query_text::QueryText;
-use server_state::FeatureSupport;
 use wire::Refusal;
 
 // Whether the initialisation is refused.
@@ -73,13 +72,6 @@ fn query_verdict(under: Under, pids: &[u8], room: usize) -> Result<(), Refusal>
     Ok(())
 }
 
-// Whether a query equals the last one, which a bare CR may repeat.
-fn repeats(repeat: FeatureSupport, last: QueryText, query: QueryText) -> bool
-    ensures { result ≡ (may_try repeat && same (text last) (text query)) }
-{
-    repeat.may_try() && last.is(query)
-}
-
 impl ClientSession {
     // Starts the initialisation: ATZ goes out. It is no raw command, and forgets nothing.
     pub fn init(self, out: &mut [u8]) -> ClientStep
@@ -119,11 +111,18 @@ impl ClientSession {
         self
     }
 
+    // Whether the query equals the last one, which a bare CR may repeat.
+    fn repeats(self) -> bool
+        ensures { result ≡ (may_try self.server.repeat && same (text self.last) (text self.query)) }
+    {
+        self.server.repeat.may_try() && self.last.is(self.query)
+    }
+
     // The query goes out, in full or as a bare CR.
     fn ask(self, out: &mut [u8]) -> ClientStep
         ensures { Does (send_query (client self) (client self).query) out.old (client_step result out.new) }
     {
-        if repeats(self.server.repeat, self.last, self.query) {
+        if self.repeats() {
             let written = wire::put_byte(out, 0, b'\r');
             return self.sends(Command::Repeat, written);
         }
@@ -132,7 +131,13 @@ impl ClientSession {
     }
 
     // Starts a query.
-    fn start_query(self, pids: &[u8], count: Option<u8>, several: bool, out: &mut [u8]) -> ClientStep
+    fn start_query(
+        self,
+        pids: &[u8],
+        count: Option<u8>,
+        several: bool,
+        out: &mut [u8],
+    ) -> ClientStep
         ensures out_after { client_step result out.new ≡
             client_lent (query_says (length out.old) (client self) pids.now (count_of count) several) out.old }
         ensures refused_or_failed { RefusedOrFailed result self }
