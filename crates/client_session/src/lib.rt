@@ -223,9 +223,8 @@ impl ClientSession {
         ensures { client result ≡ failed_client (client self) }
     {
         if self.in_several() {
-            self.server = self
-                .server
-                .with_multi_pid(self.server.multi_pid.decide(FeatureSupport::No));
+            let multi_pid = self.server.multi_pid.decide(FeatureSupport::No);
+            self.server = self.server.with_multi_pid(multi_pid);
         }
         self.forgets()
     }
