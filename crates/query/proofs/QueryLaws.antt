@@ -2,27 +2,15 @@
 use mathlib.Core.Path.{◌≡◌}
 use mathlib.Core.List.{List, [], ◌∷◌, ◌++◌}
 use Prim.Native.Nat.{ℕ, zero, suc, ◌+◌, ◌*◌, ◌/◌, ◌%◌, ◌≤◌, ◌<◌}
-use native.Mathlib.Numerals.{add-one}
 use native.Mathlib.Omega.{arith}
 use lib.Dec.{ltb}
-use lib.ListN.{length, drop, get_or, length-append}
-use lib.Seq.{drop-cons}
+use lib.ListN.{length, length-append}
 use borrow.Author.Tests.{lt-ltb, le-ltb, ltb-true}
-use Rattle.wire.specs.Put.{Put}
-use Rattle.wire.proofs.PutLaws.{put_rest}
 use Rattle.wire.proofs.Cases.{by_test}
 use Rattle.hex_text.specs.Digits.{hex_digit, hex_byte, hex_bytes}
 use Rattle.wire.proofs.All.{All, all_append}
 use Rattle.hex_text.proofs.DigitLaws.{bytes_all, bytes_length, digit_between}
 use Rattle.query.specs.Query.{decimal, count_text, text_of_query}
-
--- ---- the PIDs one by one: a turn of the loop that writes them
-
-module _ {out left : List ℕ} {at r : ℕ} (pids : List ℕ) (i : ℕ) (p : Put out at (hex_bytes (drop i pids)) r left) where
-  pub pids_step : {o₁ : List ℕ} {a : ℕ} → i < length pids → Put out at (hex_byte (get_or pids i 0)) a o₁ → Put o₁ a (hex_bytes (drop (i + 1) pids)) r left
-  pids_step h q =
-      let p₁ : Put out at (hex_byte (get_or pids i 0) ++ hex_bytes (drop (suc i) pids)) r left = rw (drop-cons pids i 0 h) at p in
-      rw add-one (put_rest p₁ q)
 
 -- ---- a number in decimal, by its size
 

