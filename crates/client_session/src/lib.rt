@@ -110,40 +110,37 @@ pub enum Failure {
     Write,
 }
 
-fn is_idle(under: Under) -> bool
-    ensures { result ≡ is_idle under }
-{
-    matches!(under, Under::Idle)
-}
-
-fn is_complete(under: Under) -> bool
-    ensures { result ≡ is_complete under }
-{
-    matches!(under, Under::Complete)
-}
-
-fn is_query(command: Command) -> bool
-    ensures { result ≡ is_query command }
-{
-    matches!(command, Command::Query | Command::Repeat)
-}
-
-// Whether a query's reply is awaited, or complete.
-fn in_query(under: Under) -> bool
-    ensures { result ≡ in_query under }
-{
-    match under {
-        Under::Idle => false,
-        Under::Awaiting(command) => is_query(command),
-        Under::Complete => true,
+impl Command {
+    fn is_query(self) -> bool
+        ensures { result ≡ is_query self }
+    {
+        matches!(self, Command::Query | Command::Repeat)
     }
 }
 
-// Whether a query of `query_pids` is under way.
-fn in_several(under: Under, several: bool) -> bool
-    ensures { result ≡ (in_query under && several) }
-{
-    in_query(under) && several
+impl Under {
+    fn is_idle(self) -> bool
+        ensures { result ≡ is_idle self }
+    {
+        matches!(self, Under::Idle)
+    }
+
+    fn is_complete(self) -> bool
+        ensures { result ≡ is_complete self }
+    {
+        matches!(self, Under::Complete)
+    }
+
+    // Whether a query's reply is awaited, or complete.
+    fn in_query(self) -> bool
+        ensures { result ≡ in_query self }
+    {
+        match self {
+            Under::Idle => false,
+            Under::Awaiting(command) => command.is_query(),
+            Under::Complete => true,
+        }
+    }
 }
 
 impl ClientSession {
@@ -214,11 +211,18 @@ impl ClientSession {
         self.moved(Under::Idle, 0)
     }
 
+    // Whether a query of `query_pids` is under way.
+    fn in_several(self) -> bool
+        ensures { result ≡ (in_query self.pending.under && self.several) }
+    {
+        self.pending.under.in_query() && self.several
+    }
+
     // The session after 7, 8 or 9.
     fn failed(mut self) -> ClientSession
         ensures { client result ≡ failed_client (client self) }
     {
-        if in_several(self.pending.under, self.several) {
+        if self.in_several() {
             let multi_pid = self.server.multi_pid.decide(FeatureSupport::No);
             self.server = self.server.with_multi_pid(multi_pid);
         }

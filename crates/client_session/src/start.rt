@@ -13,7 +13,6 @@ ghost use Rattle.client_session.specs.Steps.{Does, Early};
 
 use crate::{ClientSession, ClientStep, Command, Under};
 use query_text::QueryText;
-use server_state::FeatureSupport;
 use wire::Refusal;
 
 // Whether the initialisation is refused.
@@ -22,7 +21,7 @@ fn init_verdict(under: Under, room: usize) -> Result<(), Refusal>
     ensures says { (c : Client) → c.under ≡ under → init_says room c ≡ settled result (client_refusing c) (sends c Command.Reset (ascii "ATZ\r")) }
     ensures early { Early result }
 {
-    if !crate::is_idle(under) {
+    if !under.is_idle() {
         return Err(Refusal::OutOfTurn);
     }
     if room < 80 {
@@ -38,7 +37,7 @@ fn command_verdict(under: Under, command: &[u8], room: usize) -> Result<(), Refu
         settled result (client_refusing c) (sends (with_last_query c []) (Command.Raw (framing_effect command.now)) (with_cr command.now)) }
     ensures early { Early result }
 {
-    if !crate::is_idle(under) {
+    if !under.is_idle() {
         return Err(Refusal::OutOfTurn);
     }
     if 64 < command.len() {
@@ -61,26 +60,16 @@ fn query_verdict(under: Under, pids: &[u8], room: usize) -> Result<(), Refusal>
     ensures early { Early result }
     ensures at_most_six { result ≡ Ok tt → length pids.now ≤ 6 }
 {
-    if !crate::is_idle(under) {
+    if !under.is_idle() {
         return Err(Refusal::OutOfTurn);
     }
-    if pids.is_empty() {
-        return Err(Refusal::PidCount);
-    }
-    if 6 < pids.len() {
+    if pids.is_empty() || 6 < pids.len() {
         return Err(Refusal::PidCount);
     }
     if room < 80 {
         return Err(Refusal::SmallBuffer);
     }
     Ok(())
-}
-
-// Whether a query equals the last one, which a bare CR may repeat.
-fn repeats(repeat: FeatureSupport, last: QueryText, query: QueryText) -> bool
-    ensures { result ≡ (may_try repeat && same (text last) (text query)) }
-{
-    repeat.may_try() && last.is(query)
 }
 
 impl ClientSession {
@@ -116,18 +105,24 @@ impl ClientSession {
         ensures { client result ≡ with_query (client self) (request pids.now (count_of count) several) }
     {
         self.query = QueryText::of(pids, count);
-        let mut own = [0u8; 6];
-        self.pids_len = wire::put(&mut own, 0, pids);
-        self.pids = own;
+        self.pids = [0; 6];
+        self.pids_len = wire::put(&mut self.pids, 0, pids);
         self.several = several;
         self
+    }
+
+    // Whether the query equals the last one, which a bare CR may repeat.
+    fn repeats(self) -> bool
+        ensures { result ≡ (may_try self.server.repeat && same (text self.last) (text self.query)) }
+    {
+        self.server.repeat.may_try() && self.last.is(self.query)
     }
 
     // The query goes out, in full or as a bare CR.
     fn ask(self, out: &mut [u8]) -> ClientStep
         ensures { Does (send_query (client self) (client self).query) out.old (client_step result out.new) }
     {
-        if repeats(self.server.repeat, self.last, self.query) {
+        if self.repeats() {
             let written = wire::put_byte(out, 0, b'\r');
             return self.sends(Command::Repeat, written);
         }
@@ -136,7 +131,13 @@ impl ClientSession {
     }
 
     // Starts a query.
-    fn start_query(self, pids: &[u8], count: Option<u8>, several: bool, out: &mut [u8]) -> ClientStep
+    fn start_query(
+        self,
+        pids: &[u8],
+        count: Option<u8>,
+        several: bool,
+        out: &mut [u8],
+    ) -> ClientStep
         ensures out_after { client_step result out.new ≡
             client_lent (query_says (length out.old) (client self) pids.now (count_of count) several) out.old }
         ensures refused_or_failed { RefusedOrFailed result self }
