@@ -18,7 +18,7 @@ pub returns-then-is_reset-clause-out_after : goal.returns-then-is_reset-clause-o
 returns-then-is_reset-clause-out_after c =
     let a = c.args in
     let k = client a.self in
-    let d = rw (sym c.if-nulls_alone.ensures, sym c.if-is_reset.ensures) at (c.in_default-verdict.ensures.says k c.in-Awaiting.is) in
+    let d = rw (sym c.if-nulls_alone.ensures, sym c.if-is_reset.ensures) at (c.in_default-piece_verdict.ensures.says k c.in-Awaiting.is) in
     let eighteen : length a.self.query.bytes ≡ 18 = search rules in
     does_lent (does_as d c.send_setup.ensures) (piece_fits k (length a.out.now) a.piece.now a.store.now (omega (arith, text_short a.self.query eighteen)))
 
@@ -26,6 +26,6 @@ pub returns-clause-out_after : goal.returns-clause-out_after
 returns-clause-out_after c =
     let a = c.args in
     let k = client a.self in
-    let d = rw (sym c.if-nulls_alone.ensures, sym c.if-is_reset.ensures) at (c.in_default-verdict.ensures.says k c.in-Awaiting.is) in
+    let d = rw (sym c.if-nulls_alone.ensures, sym c.if-is_reset.ensures) at (c.in_default-piece_verdict.ensures.says k c.in-Awaiting.is) in
     let eighteen : length a.self.query.bytes ≡ 18 = search rules in
     does_lent (does_as d c.take.ensures.does) (piece_fits k (length a.out.now) a.piece.now a.store.now (omega (arith, text_short a.self.query eighteen)))
