@@ -61,7 +61,6 @@ pub const MODE01_PID_DATA_LENGTHS: PidDataLengths = [
 ];
 
 // The constant as a value: the table that a session starts with.
-#[tactic(auto, unfolding(crate::specs::Lengths::mode01_lengths, crate::specs::J1979::j1979))]
 pub fn mode01_pid_data_lengths() -> PidDataLengths
     ensures { result ≡ mode01_lengths }
 {
