@@ -7,7 +7,7 @@ mod start;
 
 ghost use Rattle.std.specs.Prelude.{◌≡◌, ◌&&◌, [], Ok, Err};
 ghost use Rattle.client_session.specs.Session.{client, fresh_client, is_idle, is_complete, with_under, with_last_query};
-ghost use Rattle.client_session.specs.Call.{is_query, in_query, failed_client, refusal_of};
+ghost use Rattle.client_session.specs.Call.{in_query, failed_client, refusal_of};
 ghost use Rattle.client_session.specs.Steps.{Stepped, unchanged};
 
 use client_command::FramingEffect;
@@ -110,14 +110,6 @@ pub enum Failure {
     Write,
 }
 
-impl Command {
-    fn is_query(self) -> bool
-        ensures { result ≡ is_query self }
-    {
-        matches!(self, Command::Query | Command::Repeat)
-    }
-}
-
 impl Under {
     fn is_idle(self) -> bool
         ensures { result ≡ is_idle self }
@@ -135,11 +127,10 @@ impl Under {
     fn in_query(self) -> bool
         ensures { result ≡ in_query self }
     {
-        match self {
-            Under::Idle => false,
-            Under::Awaiting(command) => command.is_query(),
-            Under::Complete => true,
-        }
+        matches!(
+            self,
+            Under::Awaiting(Command::Query | Command::Repeat) | Under::Complete
+        )
     }
 }
 
@@ -212,8 +203,8 @@ impl ClientSession {
     }
 
     // Whether a query of `query_pids` is under way.
-    fn in_several(self) -> bool
-        ensures { result ≡ (in_query self.pending.under && self.several) }
+    fn in_several(&self) -> bool
+        ensures { result ≡ (in_query self.now.pending.under && self.now.several) }
     {
         self.pending.under.in_query() && self.several
     }

@@ -11,74 +11,75 @@ ghost use Rattle.client_session.specs.Call.{sends, client_refusing, client_lent,
 ghost use Rattle.client_session.specs.Start.{init_says, command_says, send_query, request, query_says};
 ghost use Rattle.client_session.specs.Steps.{Does, Early};
 
-use crate::{ClientSession, ClientStep, Command, Under};
+use crate::{ClientSession, ClientStep, Command};
 use query_text::QueryText;
 use wire::Refusal;
 
-// Whether the initialisation is refused.
-#[tactic(auto, unfolding(crate::specs::Start::init_says, wire::specs::Answer::unless))]
-fn init_verdict(under: Under, room: usize) -> Result<(), Refusal>
-    ensures says { (c : Client) → c.under ≡ under → init_says room c ≡ settled result (client_refusing c) (sends c Command.Reset (ascii "ATZ\r")) }
-    ensures early { Early result }
-{
-    if !under.is_idle() {
-        return Err(Refusal::OutOfTurn);
-    }
-    if room < 80 {
-        return Err(Refusal::SmallBuffer);
-    }
-    Ok(())
-}
-
-// Whether a raw command is refused.
-#[tactic(auto, unfolding(crate::specs::Start::command_says, wire::specs::Answer::unless))]
-fn command_verdict(under: Under, command: &[u8], room: usize) -> Result<(), Refusal>
-    ensures says { (c : Client) → c.under ≡ under → command_says room c command.now ≡
-        settled result (client_refusing c) (sends (with_last_query c []) (Command.Raw (framing_effect command.now)) (with_cr command.now)) }
-    ensures early { Early result }
-{
-    if !under.is_idle() {
-        return Err(Refusal::OutOfTurn);
-    }
-    if 64 < command.len() {
-        return Err(Refusal::TooLong);
-    }
-    if wire::has_high(command) {
-        return Err(Refusal::NotAscii);
-    }
-    if room < 80 {
-        return Err(Refusal::SmallBuffer);
-    }
-    Ok(())
-}
-
-// Whether a query is refused.
-#[tactic(auto, unfolding(crate::specs::Start::query_says, wire::specs::Answer::unless))]
-fn query_verdict(under: Under, pids: &[u8], room: usize) -> Result<(), Refusal>
-    ensures says { (c : Client) → (count : ℕ) → (several : Bool) → c.under ≡
-        under → query_says room c pids.now count several ≡ settled result (client_refusing c) (send_query c (request pids.now count several)) }
-    ensures early { Early result }
-    ensures at_most_six { result ≡ Ok tt → length pids.now ≤ 6 }
-{
-    if !under.is_idle() {
-        return Err(Refusal::OutOfTurn);
-    }
-    if pids.is_empty() || 6 < pids.len() {
-        return Err(Refusal::PidCount);
-    }
-    if room < 80 {
-        return Err(Refusal::SmallBuffer);
-    }
-    Ok(())
-}
-
 impl ClientSession {
+    // Whether the initialisation is refused.
+    #[tactic(auto, unfolding(crate::specs::Start::init_says, wire::specs::Answer::unless))]
+    fn init_verdict(&self, room: usize) -> Result<(), Refusal>
+        ensures says { init_says room (client self.now) ≡
+            settled result (client_refusing (client self.now)) (sends (client self.now) Command.Reset (ascii "ATZ\r")) }
+        ensures early { Early result }
+    {
+        if !self.pending.under.is_idle() {
+            return Err(Refusal::OutOfTurn);
+        }
+        if room < 80 {
+            return Err(Refusal::SmallBuffer);
+        }
+        Ok(())
+    }
+
+    // Whether a raw command is refused.
+    #[tactic(auto, unfolding(crate::specs::Start::command_says, wire::specs::Answer::unless))]
+    fn command_verdict(&self, command: &[u8], room: usize) -> Result<(), Refusal>
+        ensures says { command_says room (client self.now) command.now ≡ settled result (client_refusing (client self.now))
+            (sends (with_last_query (client self.now) []) (Command.Raw (framing_effect command.now)) (with_cr command.now)) }
+        ensures early { Early result }
+    {
+        if !self.pending.under.is_idle() {
+            return Err(Refusal::OutOfTurn);
+        }
+        if 64 < command.len() {
+            return Err(Refusal::TooLong);
+        }
+        if wire::has_high(command) {
+            return Err(Refusal::NotAscii);
+        }
+        if room < 80 {
+            return Err(Refusal::SmallBuffer);
+        }
+        Ok(())
+    }
+
+    // Whether a query is refused.
+    #[tactic(auto, unfolding(crate::specs::Start::query_says, wire::specs::Answer::unless))]
+    fn query_verdict(&self, pids: &[u8], room: usize) -> Result<(), Refusal>
+        ensures says { (count : ℕ) → (several : Bool) → query_says room (client self.now) pids.now count several ≡
+            settled result (client_refusing (client self.now)) (send_query (client self.now) (request pids.now count several)) }
+        ensures early { Early result }
+        ensures at_most_six { result ≡ Ok tt → length pids.now ≤ 6 }
+    {
+        if !self.pending.under.is_idle() {
+            return Err(Refusal::OutOfTurn);
+        }
+        if pids.is_empty() || 6 < pids.len() {
+            return Err(Refusal::PidCount);
+        }
+        if room < 80 {
+            return Err(Refusal::SmallBuffer);
+        }
+        Ok(())
+    }
+
     // Starts the initialisation: ATZ goes out. It is no raw command, and forgets nothing.
     pub fn init(self, out: &mut [u8]) -> ClientStep
         ensures out_after { client_step result out.new ≡ client_lent (init_says (length out.old) (client self)) out.old }
         ensures refused_or_failed { RefusedOrFailed result self }
     {
-        if let Err(refusal) = init_verdict(self.pending.under, out.len()) {
+        if let Err(refusal) = self.init_verdict(out.len()) {
             return self.refused(refusal);
         }
         let written = wire::put(out, 0, b"ATZ\r");
@@ -90,7 +91,7 @@ impl ClientSession {
         ensures out_after { client_step result out.new ≡ client_lent (command_says (length out.old) (client self) command.now) out.old }
         ensures refused_or_failed { RefusedOrFailed result self }
     {
-        if let Err(refusal) = command_verdict(self.pending.under, command, out.len()) {
+        if let Err(refusal) = self.command_verdict(command, out.len()) {
             return self.refused(refusal);
         }
         self.last.len = 0;
@@ -112,8 +113,8 @@ impl ClientSession {
     }
 
     // Whether the query equals the last one, which a bare CR may repeat.
-    fn repeats(self) -> bool
-        ensures { result ≡ (may_try self.server.repeat && same (text self.last) (text self.query)) }
+    fn repeats(&self) -> bool
+        ensures { result ≡ (may_try self.now.server.repeat && same (text self.now.last) (text self.now.query)) }
     {
         self.server.repeat.may_try() && self.last.is(self.query)
     }
@@ -142,7 +143,7 @@ impl ClientSession {
             client_lent (query_says (length out.old) (client self) pids.now (count_of count) several) out.old }
         ensures refused_or_failed { RefusedOrFailed result self }
     {
-        if let Err(refusal) = query_verdict(self.pending.under, pids, out.len()) {
+        if let Err(refusal) = self.query_verdict(pids, out.len()) {
             return self.refused(refusal);
         }
         self.with_query(pids, count, several).ask(out)

@@ -9,4 +9,4 @@ use Rattle.client_session.proofs.ClientSession.init.Goals as goal
 pub returns-clause-out_after : goal.returns-clause-out_after
 returns-clause-out_after c =
     let k = client c.args.self in
-    lent_as (c.in_default.ensures.says k refl) (does_sends c.sends.ensures refl c.put-written.ensures) (init_fits (length c.args.out.now) k)
+    lent_as c.in_default.ensures.says (does_sends c.sends.ensures refl c.put-written.ensures) (init_fits (length c.args.out.now) k)

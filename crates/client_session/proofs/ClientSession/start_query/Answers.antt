@@ -12,6 +12,6 @@ pub returns-clause-out_after : goal.returns-clause-out_after
 returns-clause-out_after c =
     let a = c.args in
     let k = client a.self in
-    let d = c.in_default.ensures.says k (count_of a.count) a.several refl in
+    let d = c.in_default.ensures.says (count_of a.count) a.several in
     let given = ap (λ (x : Client). send_query x x.query) c.with_query.ensures in
     lent_as (d ∙ sym given) c.ask.ensures (query_fits (length a.out.now) k a.pids.now (count_of a.count) a.several)
