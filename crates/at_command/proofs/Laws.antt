@@ -1,31 +1,20 @@
 -- The letter after AT decides which texts a command can be.
 use mathlib.Core.Path.{◌≡◌, ap, ◌∙◌}
-use mathlib.Core.Bool.{Bool, true, false, cond, and-true}
+use mathlib.Core.Logic.{◌≢◌}
+use mathlib.Core.Bool.{true, false}
 use mathlib.Core.List.{List, [], ◌∷◌}
 use Prim.Native.Nat.{ℕ, ◌≤◌, ◌<◌}
 use native.Mathlib.Omega.{arith}
 use lib.ListN.{length, drop, get_or, length-drop, drop_of_length-le}
 use lib.Seq.{drop-cons}
-use lib.Dec.{eqb}
 use borrow.Author.Tests.{ne_eqb}
 use Rattle.wire.specs.Text.{ascii, same, begins}
 use Rattle.wire.proofs.TextLaws.{begins-front, same-long}
 use Rattle.at_command.specs.Dialect.{at_kind}
-use Rattle.at_command.specs.declared.AtKind.{AtKind}
 use Rattle.at_command.specs.declared.AtKind.TheVariants.{Unknown}
 
--- a test that passes, and one that does not
-pub first : (t : Bool) (x y : AtKind) → t ≡ true → x ≡ cond t x y
-first t x y e = rw e
-
-pub next : (t : Bool) (x y : AtKind) {z : AtKind} → t ≡ false → z ≡ y → z ≡ cond t x y
-next t x y e p = rw e p
-
--- what follows AT and a letter is one byte, or not
-pub digit_is : (c : List ℕ) (x : ℕ) → length c ≡ 4 → same (drop 3 c) (x ∷ []) ≡ eqb (get_or c 3 0) x
-digit_is c x h = rw (drop-cons c 3 0 (omega arith), drop_of_length-le c {i = 4} (omega arith)) (and-true _)
-
-pub digit_none : (c : List ℕ) (x : ℕ) → (length c ≡ 4 → ⊥) → same (drop 3 c) (x ∷ []) ≡ false
+-- not one byte after AT and a letter is no digit
+pub digit_none : (c : List ℕ) (x : ℕ) → length c ≢ 4 → same (drop 3 c) (x ∷ []) ≡ false
 digit_none c x h = same-long (drop 3 c) (x ∷ []) (λ k. h (omega (arith, length-drop 3 c)))
 
 module _ (c : List ℕ) (e : begins c (ascii "AT") ≡ true) where

@@ -78,14 +78,11 @@ fn switched(command: &[u8], setting: Setting) -> AtKind
     if command.len() != 4 {
         return AtKind::Unknown;
     }
-    let digit = command[3];
-    if digit == b'0' {
-        return AtKind::Set(setting, false);
+    match command[3] {
+        b'0' => AtKind::Set(setting, false),
+        b'1' => AtKind::Set(setting, true),
+        _ => AtKind::Unknown,
     }
-    if digit == b'1' {
-        return AtKind::Set(setting, true);
-    }
-    AtKind::Unknown
 }
 
 // ATS0 and ATS1, or what starts with ATSP or ATST.
@@ -128,8 +125,7 @@ pub fn at_kind(command: &[u8]) -> AtKind
     if command.len() < 3 {
         return AtKind::Unknown;
     }
-    let letter = command[2];
-    match letter {
+    match command[2] {
         b'Z' => one_text(command, b"ATZ", AtKind::Reset),
         b'E' => switched(command, Setting::Echo),
         b'L' => switched(command, Setting::Linefeeds),
@@ -145,25 +141,16 @@ pub fn at_kind(command: &[u8]) -> AtKind
 }
 
 // The settings with a switch turned.
-fn with_setting(state: ClientState, setting: Setting, on: bool) -> ClientState
+fn with_setting(mut state: ClientState, setting: Setting, on: bool) -> ClientState
     ensures { settings result ≡ kind_settings (AtKind.Set setting on) (settings state) }
 {
-    let mut next = state;
     match setting {
-        Setting::Echo => {
-            next.echo_enabled = on;
-        }
-        Setting::Linefeeds => {
-            next.linefeeds_enabled = on;
-        }
-        Setting::Spaces => {
-            next.spaces_enabled = on;
-        }
-        Setting::Headers => {
-            next.headers_enabled = on;
-        }
+        Setting::Echo => state.echo_enabled = on,
+        Setting::Linefeeds => state.linefeeds_enabled = on,
+        Setting::Spaces => state.spaces_enabled = on,
+        Setting::Headers => state.headers_enabled = on,
     }
-    next
+    state
 }
 
 // The settings after a command of a kind.
@@ -188,8 +175,10 @@ pub fn at_handled(state: ClientState, command: &[u8]) -> AtHandled
         × (result.kind ≡ at_kind command.now) }
 {
     let kind = at_kind(command);
-    let next = with_kind(state, kind);
-    AtHandled { state: next, kind }
+    AtHandled {
+        state: with_kind(state, kind),
+        kind,
+    }
 }
 
 // The same of settings that are lent: they are updated, and the answer is what the command is.

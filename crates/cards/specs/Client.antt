@@ -1,6 +1,6 @@
 -- Examples of the client's end: starts, pieces, failures and the pieces of a run. Document 01, "Numbers by who causes them", client_session.rs, "The bench run"; the Rust's
 -- `init`, `command` and `execute`.
-use Rattle.std.specs.Prelude.{Bool, true, false, List, [], ◌∷◌, ◌++◌, map, ℕ, zero, suc, length, replicate}
+use Rattle.std.specs.Prelude.{Bool, true, false, List, [], ◌∷◌, ◌++◌, map, ℕ, zero, suc, length, replicate, Ok, Err}
 use Prim.Native.String.{String}
 use Rattle.wire.specs.declared.Refusal.TheVariants.{OutOfTurn, PidCount, TooLong, NotAscii, SmallBuffer, Disconnected, ReplyTooLong, ReplyNotAscii}
 use Rattle.wire.specs.Answer.{result, refused}
@@ -12,6 +12,7 @@ use Rattle.client_session.specs.declared.Command.TheVariants as command
 use Rattle.client_session.specs.declared.Under.TheVariants as under
 use Rattle.client_session.specs.declared.ClientSession.{ClientSession}
 use Rattle.client_session.specs.declared.ClientAnswer.TheVariants as answer
+use Rattle.client_session.specs.declared.ClientError.TheVariants as error
 use Rattle.client_session.specs.declared.Failure.TheVariants as failure
 use Rattle.client_session.specs.Session.{Client, client, fresh_client, with_under}
 use Rattle.client_session.specs.Call.{sent, awaited, over, complete, values, ClientSaid, client_lent, client_answer, client_step}
@@ -91,15 +92,15 @@ out_buffer = replicate 80 9
 
 abbrev pub client_examples : List Example
 client_examples =
-    example "a query goes out" (client_lent started out_buffer) (client_step (record { answer = answer.Sent; written = 5; session = client_holding 0 }) (ascii "010C\r" ++ replicate 75 9)) ∷
+    example "a query goes out" (client_lent started out_buffer) (client_step (record { answer = Ok answer.Sent; written = 5; session = client_holding 0 }) (ascii "010C\r" ++ replicate 75 9)) ∷
     example "a piece of its reply is stored" (client_lent (piece_says 80 started.next (ascii "41") empty_store) out_buffer)
-    (client_step (record { answer = answer.Awaited; written = 0; session = client_holding 2 }) out_buffer) ∷
+    (client_step (record { answer = Ok answer.Awaited; written = 0; session = client_holding 2 }) out_buffer) ∷
     example "after what the store holds of it" (store_after (client (client_holding 2)) (result awaited) (ascii "0C") (ascii "41" ++ replicate 4094 0)) (ascii "410C" ++ replicate 4092 0) ∷
     example "but for the answer to ATZ, and a piece that gets a number"
     (store_after initialising (result sent) (ascii "41") empty_store ∷ store_after started.next (refused 3) (ascii "41") empty_store ∷ [])
     (empty_store ∷ empty_store ∷ []) ∷
     example "as in a delivery, which uses up a piece length" (delivery_lent (delivered 80 started.next empty_store (2 ∷ 9 ∷ []) (ascii "41")) out_buffer)
-    (delivery_step (2 ∷ 9 ∷ []) (record { answer = answer.Awaited; written = 0; session = client_holding 2; used = 1 }) (ascii "41" ++ replicate 4094 0) out_buffer) ∷
+    (delivery_step (2 ∷ 9 ∷ []) (record { answer = Ok answer.Awaited; written = 0; session = client_holding 2; used = 1 }) (ascii "41" ++ replicate 4094 0) out_buffer) ∷
     example "a query again, and a `?` for it" (first_query.text ∷ query_again.text ∷ (reply query_again.next "?\r\r>").text ∷ []) (ascii "010C 1\r" ∷ ascii "\r" ∷ ascii "010C 1\r" ∷ []) ∷
     example "repeat after a `?`, and after another reply"
     ((reply query_again.next "?\r\r>").next.server.repeat ∷ (reply query_again.next "NO DATA\r\r>").next.server.repeat ∷ []) (support.No ∷ support.Yes ∷ []) ∷
@@ -130,9 +131,9 @@ client_examples =
     example "failures out of turn, with little room, and of a query"
     ((failure_says 80 after_first failure.Write).answer ∷ (failure_says 79 first_query.next failure.Write).answer ∷ (failure_says 80 first_query.next failure.Read).answer ∷ [])
     (refused 1 ∷ refused 6 ∷ refused 7 ∷ []) ∷
-    example "the numbers of the client's calls" (map (λ q. client_answer (answer.Refused q)) (OutOfTurn ∷ PidCount ∷ TooLong ∷ NotAscii ∷ SmallBuffer ∷ [])) (map refused (1 ∷ 2 ∷ 3 ∷ 4 ∷ 6 ∷ [])) ∷
-    example "and of the far side" (map (λ q. client_answer (answer.Failed q)) (Disconnected ∷ ReplyTooLong ∷ ReplyNotAscii ∷ [])) (map refused (7 ∷ 8 ∷ 9 ∷ [])) ∷
-    example "what else a call says" (map client_answer (answer.Sent ∷ answer.Awaited ∷ answer.Over ∷ answer.Complete ∷ answer.Values 2 ∷ []))
+    example "the numbers of the client's calls" (map (λ q. client_answer (Err (error.Refused q))) (OutOfTurn ∷ PidCount ∷ TooLong ∷ NotAscii ∷ SmallBuffer ∷ [])) (map refused (1 ∷ 2 ∷ 3 ∷ 4 ∷ 6 ∷ [])) ∷
+    example "and of the far side" (map (λ q. client_answer (Err (error.Failed q))) (Disconnected ∷ ReplyTooLong ∷ ReplyNotAscii ∷ [])) (map refused (7 ∷ 8 ∷ 9 ∷ [])) ∷
+    example "what else a call says" (map (λ a. client_answer (Ok a)) (answer.Sent ∷ answer.Awaited ∷ answer.Over ∷ answer.Complete ∷ answer.Values 2 ∷ []))
     (map result (sent ∷ awaited ∷ over ∷ complete ∷ values 2 ∷ [])) ∷
     example "pieces up to the one that completes the reply" (fed 80 first_query.next empty_store in_pieces).said.answer (result complete) ∷
     example "the piece that is left" (fed 80 first_query.next empty_store in_pieces).left (ascii "x" ∷ []) ∷

@@ -1,6 +1,6 @@
 -- Examples of what finishing a query gives and learns. Document 01, client_session.rs; document 02 §1; the Rust's `parse_reply`, `learn_pid_data_length`,
 -- `learn_ecu_counts` and `validate_multi_pid_support`.
-use Rattle.std.specs.Prelude.{true, false, List, [], ◌∷◌, ◌++◌, map, ℕ, ◌-◌, replicate, set}
+use Rattle.std.specs.Prelude.{true, false, List, [], ◌∷◌, ◌++◌, map, ℕ, ◌-◌, replicate, set, Ok, Err}
 use Rattle.std.proofs.Math.Option.{none, some}
 use Prim.Native.String.{String}
 use Rattle.wire.specs.Answer.{result, refused}
@@ -9,7 +9,6 @@ use Rattle.pid.specs.Lengths.{mode01_lengths, length_in}
 use Rattle.line_list.specs.Lines.{line}
 use Rattle.value.specs.Values.{value}
 use Rattle.reply_values.specs.Learn.{learn_length, ecus_giving}
-use Rattle.wire.specs.declared.Count.TheVariants as count
 use Rattle.wire.specs.declared.Refusal.TheVariants.{SmallBuffer}
 use Rattle.reply_values.specs.Read.{ReadServed, reply_read, read_reply}
 use Rattle.server_state.specs.declared.FeatureSupport.TheVariants as support
@@ -63,7 +62,7 @@ count_after c p t = count_in (finish_with (query_says 80 c (p ∷ []) 0 false) t
 abbrev pub learning : List Example
 learning =
     example "E0 of two ECUs" both_ecus.text (0xE0 ∷ 0xE9 ∷ 0x0F ∷ 0x05 ∷ 0x41 ∷ 0xE0 ∷ 1 ∷ 2 ∷ 3 ∷ 0xE0 ∷ 0xEA ∷ 0x0F ∷ 0x05 ∷ 0x41 ∷ 0xE0 ∷ 1 ∷ 2 ∷ 3 ∷ []) ∷
-    example "two values" both_ecus.answer (client_answer (answer.Values 2)) ∷
+    example "two values" both_ecus.answer (client_answer (Ok (answer.Values 2))) ∷
     example "its length is learned" (length_in both_ecus.next.server.pid_lengths 0xE0) (some 3) ∷
     example "and its count, 2" (count_in both_ecus.next.server.ecu_counts 0xE0) 3 ∷
     example "E0 with two lengths: two values" (read_unlike 18).answer (result 2) ∷
@@ -71,7 +70,7 @@ learning =
     example "its values" (read_unlike 18).out (0xE0 ∷ 0xE9 ∷ 0x0F ∷ 0x04 ∷ 0x41 ∷ 0xE0 ∷ 1 ∷ 2 ∷ 0xE0 ∷ 0xEA ∷ 0x0F ∷ 0x05 ∷ 0x41 ∷ 0xE0 ∷ 1 ∷ 2 ∷ 3 ∷ 9 ∷ []) ∷
     example "no length is learned"
     (length_in (read_unlike 18).server.pid_lengths 0xE0 ∷ length_in (finish_with (query_says 80 framed (0xE0 ∷ []) 0 false) unlike).next.server.pid_lengths 0xE0 ∷ []) (none ∷ none ∷ []) ∷
-    example "with room for 16 bytes nothing is learned or written" (read_unlike 16) (reply_read (record { answer = count.Refused SmallBuffer; written = 0; server = framed.server }) (replicate 16 9)) ∷
+    example "with room for 16 bytes nothing is learned or written" (read_unlike 16) (reply_read (record { answer = Err SmallBuffer; written = 0; server = framed.server }) (replicate 16 9)) ∷
     example "which is 6, and 8 for a reply over 4,096 bytes" ((read_unlike 16).answer ∷ (read_e0 (replicate 4097 13) []).answer ∷ []) (refused 6 ∷ refused 8 ∷ []) ∷
     example "a length of 1 that is learned cuts the value after it, and the byte left is a PID without data" unframed_e0.text
     (0x02 ∷ 0 ∷ 2 ∷ 0x41 ∷ 0x02 ∷ 0x0D ∷ 0 ∷ 3 ∷ 0x41 ∷ 0x0D ∷ 0x20 ∷ 0xE0 ∷ 0 ∷ 3 ∷ 0x41 ∷ 0xE0 ∷ 0x01 ∷ 0xE0 ∷ 0 ∷ 3 ∷ 0x41 ∷ 0xE0 ∷ 0x01 ∷ []) ∷
@@ -92,7 +91,7 @@ learning =
     example "lines that do not start with 41, or have one byte" (finish_with (query_says 80 new (0x0C ∷ []) 0 false) "7F0112\r41\r\r>").text [] ∷
     example "a query finished" (client_lent (finish_with (query_says 80 new (0x0C ∷ []) 0 false) "410C1AF8\r\r>") (replicate 9 9))
     (client_step (record {
-      answer = answer.Values 1;
+      answer = Ok (answer.Values 1);
       written = 7;
       session = record {
         want_framing = true;
@@ -166,5 +165,5 @@ numbered =
     example "multi-PID support after 9, of `query_pids` and of `query_pid`, and after 6"
     (map (λ (s : ClientSaid). s.next.server.multi_pid) (spoilt 13 4096 ask_two ∷ spoilt 13 4096 ask_one ∷ spoilt 13 4095 ask_two ∷ [])) (support.No ∷ support.Unknown ∷ support.Unknown ∷ []) ∷
     example "6 for the output leaves the session" (finishing 12 ask_two "410C1AF80D20\r\r>").next (complete_client ask_two) ∷
-    example "a byte of 80 past the reply is not looked at" (finish_says 13 (complete_client ask_two) (ascii "410C1AF80D20\r\r>" ++ replicate 4081 0x80)).answer (client_answer (answer.Values 2)) ∷
+    example "a byte of 80 past the reply is not looked at" (finish_says 13 (complete_client ask_two) (ascii "410C1AF80D20\r\r>" ++ replicate 4081 0x80)).answer (client_answer (Ok (answer.Values 2))) ∷
     []

@@ -1,12 +1,11 @@
 -- Examples of 00 bytes on the serial line. Document 02 §2; what is expected follows from its sentences and document 01's alone.
-use Rattle.std.specs.Prelude.{true, false, List, [], ◌∷◌, ◌++◌, map, ℕ, ◌-◌, length, replicate}
+use Rattle.std.specs.Prelude.{true, false, List, [], ◌∷◌, ◌++◌, map, ℕ, ◌-◌, length, replicate, Some, None}
 use Rattle.wire.specs.Answer.{result, refused}
 use Rattle.wire.specs.Text.{ascii, without_nulls}
 use Rattle.line_list.specs.Lines.{line}
 use Rattle.reply_lines.specs.Lines.{text_lines}
 use Rattle.reply_lines.specs.Decode.{text_line, lines_of_reply}
 use Rattle.reply_lines.specs.Reader.{text_step, line_from, past_step, step_text}
-use Rattle.reply_lines.specs.declared.TextStep.TheVariants as step
 use Rattle.reply_values.specs.Read.{read_reply}
 use Rattle.client_session.specs.declared.Command.TheVariants as command
 use Rattle.client_session.specs.declared.Under.TheVariants as under
@@ -69,8 +68,8 @@ nulls =
     ((line 0 (0x41 ∷ []) ∷ []) ∷ (line 0 [] ∷ []) ∷ []) ∷
     example "four characters count as four" (lines_of_reply true (0x41 ∷ 0x00 ∷ 0x31 ∷ 0x32 ∷ 0x00 ∷ 0x0D ∷ [])) (line 0 (0x41 ∷ 0x31 ∷ 0x32 ∷ []) ∷ []) ∷
     example "an id and a length byte close up" (lines_of_reply true (0x37 ∷ 0x00 ∷ 0x45 ∷ 0x38 ∷ 0x30 ∷ 0x00 ∷ 0x33 ∷ 0x34 ∷ 0x00 ∷ 0x31 ∷ [])) (line 0x7E9 (0x41 ∷ []) ∷ []) ∷
-    example "a reader's line starts and ends past 00 and white space, and the next is looked for past its CR" (line_from spread 0) (text_step (step.Text 2 5 8)) ∷
-    example "there is none" (line_from spread 8) (text_step step.End) ∷
+    example "a reader's line starts and ends past 00 and white space, and the next is looked for past its CR" (line_from spread 0) (text_step (Some (record { start = 2; end = 5; next = 8 }))) ∷
+    example "there is none" (line_from spread 8) (text_step None) ∷
     example "a 00 inside is a part of the line's text" (past_step 0 (line_from spread 0) ∷ step_text spread (line_from spread 0)) (8 ∷ 0x34 ∷ 0x00 ∷ 0x31 ∷ []) ∷
     example "which decodes without it" (text_line false (0x34 ∷ 0x00 ∷ 0x31 ∷ [])) (line 0 (0x41 ∷ [])) ∷
     example "a text without its 00" (without_nulls slipped) (ascii "7E803 410D20\r\r>") ∷

@@ -1,9 +1,8 @@
 -- Examples of the server's end. Document 01, lib.rs and server_session.rs; the texts of the Rust's `handle_at_command`; the ELM327 datasheet's shape of a reply.
-use Rattle.std.specs.Prelude.{true, false, List, [], ◌∷◌, ◌++◌, map, ℕ, ◌-◌, length, replicate}
+use Rattle.std.specs.Prelude.{true, false, List, [], ◌∷◌, ◌++◌, map, ℕ, ◌-◌, length, replicate, Ok, Err}
 use Prim.Native.String.{String}
 use Rattle.wire.specs.Answer.{Answer, result, refused, number}
 use Rattle.wire.specs.Put.{count_written}
-use Rattle.wire.specs.declared.Count.TheVariants as count
 use Rattle.wire.specs.declared.Refusal.TheVariants.{OutOfTurn, PidCount, TooLong, NotAscii, Malformed, SmallBuffer, Disconnected, ReplyTooLong, ReplyNotAscii, LineFull, ByteNotAscii}
 use Rattle.wire.specs.Text.{ascii}
 use Rattle.at_command.specs.Dialect.{at_kind, kind_lines}
@@ -13,7 +12,6 @@ use Rattle.reply.specs.Steps.{reply_size}
 use Rattle.server_session.specs.Session.{Session, fresh_session}
 use Rattle.server_session.specs.declared.Phase.{Phase}
 use Rattle.server_session.specs.declared.Phase.TheVariants.{Reading, AtCommand, ObdCommand}
-use Rattle.server_session.specs.declared.ServerAnswer.TheVariants as answer
 use Rattle.server_session.specs.declared.ServerSession.{ServerSession}
 use Rattle.server_session.specs.Call.{server_lent, server_step}
 use Rattle.server_session.specs.Bytes.{byte_says, bytes_say}
@@ -67,20 +65,20 @@ quiet = "ATE0" ∷ "ATL0" ∷ "ATS0" ∷ "ATSP0" ∷ "ATH1" ∷ []
 abbrev pub server_examples : List Example
 server_examples =
     example "a byte is echoed and stored" (server_lent (byte_says 8 fresh_session 65) (replicate 8 9))
-    (server_step (record { answer = answer.Reading; taken = 1; written = 1; session = server_holding "" "A" Reading }) (65 ∷ replicate 7 9)) ∷
+    (server_step (record { answer = Ok Reading; taken = 1; written = 1; session = server_holding "" "A" Reading }) (65 ∷ replicate 7 9)) ∷
     example "a line is echoed, and its command handed out" (server_lent (bytes_say 16 fresh_session (ascii "01 0d\rA")) (replicate 16 9))
-    (server_step (record { answer = answer.ObdCommand; taken = 6; written = 6; session = server_holding "" "010D" ObdCommand }) (ascii "01 0d\r" ++ replicate 10 9)) ∷
+    (server_step (record { answer = Ok ObdCommand; taken = 6; written = 6; session = server_holding "" "010D" ObdCommand }) (ascii "01 0d\r" ++ replicate 10 9)) ∷
     example "LF is echoed and not stored" ((bytes_say 64 fresh_session (ascii "A\nT")).text ∷ (bytes_say 64 fresh_session (ascii "A\nT")).next.line ∷ []) (ascii "A\nT" ∷ ascii "AT" ∷ []) ∷
     example "a byte of 80, room for 7, and a command handed out"
     ((byte_says 64 fresh_session 0x80).answer ∷ (byte_says 7 fresh_session 65).answer ∷ (byte_says 64 (after_line fresh_session "010D") 65).answer ∷ [])
     (refused 11 ∷ refused 6 ∷ refused 1 ∷ []) ∷
     example "a reply becomes the last command" (server_lent (reply_says 13 (after_line fresh_session "010D") speed_line) (replicate 14 9))
-    (server_step (record { answer = answer.Reading; taken = 0; written = 13; session = server_holding "010D" "" Reading }) (with_prompt "41 0D 20" ++ (9 ∷ []))) ∷
+    (server_step (record { answer = Ok Reading; taken = 0; written = 13; session = server_holding "010D" "" Reading }) (with_prompt "41 0D 20" ++ (9 ∷ []))) ∷
     example "its 13 bytes in room for 12" (reply_says 12 (after_line fresh_session "010D") speed_line).answer (refused 6) ∷
     example "then CR hands it out again" ((after_line after_reply "").phase ∷ []) (ObdCommand ∷ []) ∷
     example "as it was" (after_line after_reply "").line (ascii "010D") ∷
     example "a reply without lines, whose command becomes the last one too" (server_lent (reply_says 12 (after_line after_reply "010C") []) (replicate 13 9))
-    (server_step (record { answer = answer.Reading; taken = 0; written = 12; session = server_holding "010C" "" Reading }) (with_prompt "NO DATA" ++ (9 ∷ []))) ∷
+    (server_step (record { answer = Ok Reading; taken = 0; written = 12; session = server_holding "010C" "" Reading }) (with_prompt "NO DATA" ++ (9 ∷ []))) ∷
     example "a rejection" (reject_says 64 (after_line after_reply "010C") (ascii "UNABLE TO CONNECT")).text (with_prompt "UNABLE TO CONNECT") ∷
     example "it leaves the last command" (reject_says 64 (after_line after_reply "010C") (ascii "?")).next.state.last (ascii "010D") ∷
     example "rejections out of turn, too long, not ASCII, and with little room"
@@ -91,9 +89,9 @@ server_examples =
     (map number (OutOfTurn ∷ PidCount ∷ TooLong ∷ NotAscii ∷ Malformed ∷ SmallBuffer ∷ Disconnected ∷ ReplyTooLong ∷ ReplyNotAscii ∷ LineFull ∷ ByteNotAscii ∷ []))
     (1 ∷ 2 ∷ 3 ∷ 4 ∷ 5 ∷ 6 ∷ 7 ∷ 8 ∷ 9 ∷ 10 ∷ 11 ∷ []) ∷
     example "the size of a reply" (reply_size true true false speed_line ∷ reply_size true true false (0 ∷ []) ∷ []) (result 13 ∷ refused 5 ∷ []) ∷
-    example "a reply in 14 bytes" (replied true true false speed_line (replicate 14 9)) (count_written (count.Is 13) (with_prompt "41 0D 20" ++ (9 ∷ []))) ∷
+    example "a reply in 14 bytes" (replied true true false speed_line (replicate 14 9)) (count_written (Ok 13) (with_prompt "41 0D 20" ++ (9 ∷ []))) ∷
     example "a reply in 12 bytes, and of a malformed list" (replied true true false speed_line (replicate 12 9) ∷ replied true true false (0 ∷ []) (9 ∷ []) ∷ [])
-    (count_written (count.Refused SmallBuffer) (replicate 12 9) ∷ count_written (count.Refused Malformed) (9 ∷ []) ∷ []) ∷
+    (count_written (Err SmallBuffer) (replicate 12 9) ∷ count_written (Err Malformed) (9 ∷ []) ∷ []) ∷
     example "the chip's replies, with linefeeds off" (chip_reply false (ascii "7E804410C1AF8" ∷ ascii "7E904410C1AF8" ∷ [])) (ascii "7E804410C1AF8\r7E904410C1AF8\r\r>") ∷
     example "AT answers after the echo" (map (at_sends fresh_session) ("ATRV" ∷ "ATDP" ∷ "ATDPN" ∷ "ATI" ∷ "AT@1" ∷ "at st 96" ∷ "AT" ∷ "ATDPX" ∷ []))
     (with_prompt "ATRV\r12.6V" ∷ with_prompt "ATDP\rAUTO, ISO 15765-4 (CAN 11/500)" ∷ with_prompt "ATDPN\rA6" ∷ with_prompt "ATI\rELM327 v1.5" ∷

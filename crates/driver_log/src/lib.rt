@@ -67,7 +67,7 @@ pub fn argument_size(script: &[u8], from: usize) -> usize
     if script.len() - 3 < from {
         return 0;
     }
-    let low = script[from + 1] as usize;
-    let high = script[from + 2] as usize;
+    let low = usize::from(script[from + 1]);
+    let high = usize::from(script[from + 2]);
     wire::at_most(low + high * 256, script.len() - from - 3)
 }

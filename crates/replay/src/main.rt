@@ -29,7 +29,7 @@ struct Difference {
 }
 
 // How many cases stand under a heading, and the first that differs.
-#[derive(Clone, Copy)]
+#[derive(Clone, Copy, Default)]
 struct Tally {
     cases: usize,
     first: Option<Difference>,
@@ -52,22 +52,15 @@ fn judge(ours: &[u8], stored: &[u8]) -> Option<usize>
     Some(agreeing(ours, stored))
 }
 
-fn no_cases() -> Tally
-    ensures { result ≡ record { cases = 0; first = None } }
-{
-    Tally {
-        cases: 0,
-        first: None,
-    }
-}
-
 // One more case.
 fn add_case(before: Tally, differs: Option<usize>) -> Tally
     requires { before.cases ≤ 262144 }
     ensures { result ≡ tallied before differs }
 {
     let case = before.cases + 1;
-    let first = before.first.or(differs.map(|place| Difference { case, place }));
+    let first = before
+        .first
+        .or(differs.map(|place| Difference { case, place }));
     Tally { cases: case, first }
 }
 
@@ -115,15 +108,29 @@ fn run_bench(
     driver::driver_bench(repeat, script, pieces, &mut out[..size], log)
 }
 
-// Whether the client session of a kind asks for CAN headers: 3 and 5 of 2 to 5.
-fn asks_framing(kind: u8) -> bool {
-    matches!(kind, 3 | 5)
+// What a case runs.
+#[derive(Clone, Copy)]
+enum Case {
+    Server,
+    Client { framing: bool, repeat: bool },
+    Bench { repeat: bool },
 }
 
-// Runs a case by its kind, and answers the length of its log. 1 is a server session, 2 to 5 a client session, of which 4 and 5 repeat queries, and the others are
-// bench runs, with repeat but for 6.
+// 1 is a server session, 2 to 5 a client session, of which 3 and 5 ask for CAN headers, and 4 and 5 repeat queries; the others are bench runs, with repeat but for 6.
+fn case_of(kind: u8) -> Case {
+    match kind {
+        1 => Case::Server,
+        2..=5 => Case::Client {
+            framing: matches!(kind, 3 | 5),
+            repeat: 4 <= kind,
+        },
+        _ => Case::Bench { repeat: kind != 6 },
+    }
+}
+
+// Runs a case, and answers the length of its log.
 fn run(
-    kind: u8,
+    case: Case,
     room: usize,
     pieces: &[u8],
     script: &[u8],
@@ -131,14 +138,13 @@ fn run(
     out: &mut [u8],
     log: &mut [u8],
 ) -> usize {
-    if kind == 1 {
-        return driver::driver_server(script, 0, b"", out, log);
+    match case {
+        Case::Server => driver::driver_server(script, 0, b"", out, log),
+        Case::Client { framing, repeat } => driver::driver_client(
+            framing, repeat, script, 0, b"", store, out, log,
+        ),
+        Case::Bench { repeat } => run_bench(repeat, room, pieces, script, out, log),
     }
-    if kind < 6 {
-        let framing = asks_framing(kind);
-        return driver::driver_client(framing, 4 <= kind, script, 0, b"", store, out, log);
-    }
-    run_bench(kind != 6, room, pieces, script, out, log)
 }
 
 fn replay(
@@ -152,7 +158,7 @@ fn replay(
     requires { Within at entry (length list.now) }
 {
     let written = run(
-        entry.kind,
+        case_of(entry.kind),
         entry.room,
         &list[entry.pieces..entry.script],
         &list[entry.script..entry.stored],
@@ -187,7 +193,7 @@ fn head<W: Write>(to: &mut W, list: &[u8], entry: Entry, before: Tally, at: usiz
     }
     let _ = to.write_all(&list[entry.stored..entry.next]);
     let _ = to.write_all(b": ");
-    no_cases()
+    Tally::default()
 }
 
 fn main(rt: HostRuntime) {
@@ -197,7 +203,7 @@ fn main(rt: HostRuntime) {
     let mut store = [0u8; 4096];
     let mut out = [0u8; 65536];
     let mut log = [0u8; 65536];
-    let mut under = no_cases();
+    let mut under = Tally::default();
     let mut at: usize = 0;
     while 9 <= n - at {
         let entry = read_entry(&list[..n], at);

@@ -5,15 +5,14 @@ use mathlib.Core.List.{List, [], ◌∷◌, map}
 use Prim.Native.Nat.{ℕ, ◌≤◌, ◌<◌}
 use native.Mathlib.Nat.{sub-zero, zero-add}
 use native.Mathlib.Omega.{arith}
-use lib.Dec.{ltb}
+use lib.Dec.{eqb, ltb}
 use lib.ListN.{length}
 use lib.Seq.{sets}
-use borrow.Author.Tests.{ltb-false}
+use borrow.Author.Tests.{eqb-true, ltb-false}
 use Rattle.wire.specs.declared.Refusal.{Refusal}
 use Rattle.wire.specs.declared.Refusal.TheVariants.{SmallBuffer}
-use Rattle.wire.specs.declared.Count.{Count}
-use Rattle.wire.specs.declared.Count.TheVariants.{Is, Refused}
-use Rattle.wire.specs.Answer.{result, refused, number, count_answer, unless}
+use Rattle.std.specs.Prelude.{Ok, Err}
+use Rattle.wire.specs.Answer.{result, refused, number, unless}
 use Rattle.wire.specs.Put.{Put, Written, count_written, put_whole}
 use Rattle.wire.specs.Text.{ascii}
 use Rattle.wire.proofs.Cases.{from_no}
@@ -37,20 +36,20 @@ module _ (out text left : List ℕ) where
   abbrev writing : List (Bool × ℕ) → Written
   writing rows = unless rows (λ n. record { answer = refused n; out = out }) (record { answer = result (length text); out = sets out 0 text })
 
-  pub refused_out : (rows : List (Bool × ℕ)) (r : Refusal) → count_written (Refused r) left ≡ writing rows → left ≡ out
+  pub refused_out : (rows : List (Bool × ℕ)) (r : Refusal) → count_written (Err r) left ≡ writing rows → left ≡ out
   unfolding unless
   refused_out [] r q = from_no (cc (ap (λ (x : Written). x.answer) q))
   refused_out ((true, n) ∷ rows) r q = ap (λ (x : Written). x.out) q
   refused_out ((false, n) ∷ rows) r q = refused_out rows r q
 
   pub refused_same : {X : Type 0} (rows : List (Bool × ℕ)) (refuse : ℕ → X) (say : X) (r : Refusal) →
-      count_written (Refused r) left ≡ writing rows → unless rows refuse say ≡ refuse (number r)
+      count_written (Err r) left ≡ writing rows → unless rows refuse say ≡ refuse (number r)
   unfolding unless
   refused_same [] refuse say r q = from_no (cc (ap (λ (x : Written). x.answer) q))
   refused_same ((true, n) ∷ rows) refuse say r q = let same : n ≡ number r = cc (ap (λ (x : Written). x.answer) q) in ap refuse same
   refused_same ((false, n) ∷ rows) refuse say r q = refused_same rows refuse say r q
 
-  of_written : (rows : List (Bool × ℕ)) {n : ℕ} → count_written (Is n) left ≡ writing rows → Passed rows × (n ≡ length text) × (left ≡ sets out 0 text)
+  of_written : (rows : List (Bool × ℕ)) {n : ℕ} → count_written (Ok n) left ≡ writing rows → Passed rows × (n ≡ length text) × (left ≡ sets out 0 text)
   unfolding unless
   of_written [] q = (tt, cc (ap (λ (x : Written). x.answer) q), ap (λ (x : Written). x.out) q)
   of_written ((true, n) ∷ rows) q = from_no (cc (ap (λ (x : Written). x.answer) q))
@@ -81,25 +80,25 @@ module _ (linefeeds spaces headers : Bool) where
   module _ (s : List ℕ) where
     -- What the size tells its caller
 
-    pub size_told : {r : Count} {n : ℕ} → count_answer r ≡ reply_size linefeeds spaces headers s → r ≡ Is n →
+    size_told : {n : ℕ} → result n ≡ reply_size linefeeds spaces headers s →
         (ls : List Line) × (rest : List ℕ) × (lines_of_list s ≡ got ls rest) × (length (reply_text linefeeds spaces headers ls) ≡ n)
     unfolding reply_size
-    size_told {r} {n} q d = of_size (lines_of_list s) n (sym q ∙ ap count_answer d)
+    size_told {n} q = of_size (lines_of_list s) n (sym q)
 
-    size_refused : {r : Count} {q : Refusal} → count_answer r ≡ reply_size linefeeds spaces headers s → r ≡ Refused q → (j : ℕ) × (lines_of_list s ≡ failed j) × (number q ≡ 5)
+    size_refused : (r : Refusal) → refused (number r) ≡ reply_size linefeeds spaces headers s → (j : ℕ) × (lines_of_list s ≡ failed j) × (number r ≡ 5)
     unfolding reply_size
-    size_refused {r} {q} e d = of_refused (lines_of_list s) (number q) (sym e ∙ ap count_answer d)
+    size_refused r q = of_refused (lines_of_list s) (number r) (sym q)
 
     -- The text of a list that is empty, and of one that is not
 
     module _ (ls : List Line) (rest : List ℕ) (q : lines_of_list s ≡ got ls rest) where
-      pub list_none : length s ≤ 0 → reply_text linefeeds spaces headers ls ≡ chip_reply linefeeds (ascii "NO DATA" ∷ [])
+      list_none : eqb (length s) 0 ≡ true → reply_text linefeeds spaces headers ls ≡ chip_reply linefeeds (ascii "NO DATA" ∷ [])
       unfolding lines_of_list
-      list_none h = let e = left_end line_format 64 s 0 h in let none : ls ≡ [] = cc in rw none reply_none
+      list_none h = let e = left_end line_format 64 s 0 (omega (arith, eqb-true (length s) 0 h)) in let none : ls ≡ [] = cc in rw none reply_none
 
-      pub list_some : 0 < length s → reply_text linefeeds spaces headers ls ≡ chip_reply linefeeds (map (line_text spaces headers) ls)
+      list_some : eqb (length s) 0 ≡ false → reply_text linefeeds spaces headers ls ≡ chip_reply linefeeds (map (line_text spaces headers) ls)
       unfolding lines_of_list
-      list_some h = some_lines ls (λ e. omega (arith, no_lines 64 s rest (q ∙ rw e)))
+      list_some h = some_lines ls (λ e. let some = rw (no_lines 64 s rest (q ∙ rw e)) at h in from_no cc)
         where
           some_lines : (ms : List Line) → (ms ≡ [] → ⊥) → reply_text linefeeds spaces headers ms ≡ chip_reply linefeeds (map (line_text spaces headers) ms)
           some_lines [] n = absurd (n refl)
@@ -116,17 +115,17 @@ module _ (linefeeds spaces headers : Bool) where
       replied-rows = rw (sub-zero, zero-add)
 
       replied_small : (ls : List Line) (rest : List ℕ) → lines_of_list s ≡ got ls rest → length out < length (reply_text linefeeds spaces headers ls) →
-          count_written (Refused SmallBuffer) out ≡ replied linefeeds spaces headers s out
+          count_written (Err SmallBuffer) out ≡ replied linefeeds spaces headers s out
       unfolding replied unless
       replied_small ls rest q h = rw q (whole_small out 0 (reply_text linefeeds spaces headers ls) (omega arith))
 
       replied_written : (ls : List Line) (rest : List ℕ) → lines_of_list s ≡ got ls rest → length (reply_text linefeeds spaces headers ls) ≤ length out →
-          {left : List ℕ} {r : ℕ} → Put out 0 (reply_text linefeeds spaces headers ls) r left → count_written (Is r) left ≡ replied linefeeds spaces headers s out
+          {left : List ℕ} {r : ℕ} → Put out 0 (reply_text linefeeds spaces headers ls) r left → count_written (Ok r) left ≡ replied linefeeds spaces headers s out
       unfolding replied unless
       replied_written ls rest q h p = rw q (whole-stored (omega arith) (omega arith) p)
 
       -- what a written reply tells its caller: whose lines' text stands whole at the front of the buffer
-      pub written_told : {n : ℕ} {left : List ℕ} → count_written (Is n) left ≡ replied linefeeds spaces headers s out →
+      pub written_told : {n : ℕ} {left : List ℕ} → count_written (Ok n) left ≡ replied linefeeds spaces headers s out →
           (ls : List Line) × (rest : List ℕ) × (lines_of_list s ≡ got ls rest) × (length (reply_text linefeeds spaces headers ls) ≤ length out) ×
           Put out 0 (reply_text linefeeds spaces headers ls) n left
       written_told {n} {left} q =
@@ -138,28 +137,29 @@ module _ (linefeeds spaces headers : Bool) where
           (ls, rest, g, few, record { next = omega (arith, few, long); bytes = rw text at bytes })
 
       -- as the code finds them, from the size
-      module _ {r : Count} (q : count_answer r ≡ reply_size linefeeds spaces headers s) where
-        pub answer_refused : {a : Refusal} → r ≡ Refused a → count_written (Refused a) out ≡ replied linefeeds spaces headers s out
-        unfolding replied put_whole unless
-        answer_refused d = let (j, g, n) = size_refused q d in rw (g, n)
+      pub answer_refused : (r : Refusal) → refused (number r) ≡ reply_size linefeeds spaces headers s → count_written (Err r) out ≡ replied linefeeds spaces headers s out
+      unfolding replied put_whole unless
+      answer_refused r q = let (j, g, n) = size_refused r q in rw (g, n)
 
-        pub answer_small : {n : ℕ} → r ≡ Is n → length out < n → count_written (Refused SmallBuffer) out ≡ replied linefeeds spaces headers s out
-        answer_small d h = let (ls, rest, g, n) = size_told q d in replied_small ls rest g (omega arith)
+      module _ {n : ℕ} (q : result n ≡ reply_size linefeeds spaces headers s) where
+        pub answer_small : length out < n → count_written (Err SmallBuffer) out ≡ replied linefeeds spaces headers s out
+        answer_small h = let (ls, rest, g, n) = size_told q in replied_small ls rest g (omega arith)
 
-        pub answer_none : {n : ℕ} → r ≡ Is n → n ≤ length out → length s ≤ 0 →
-            {left : List ℕ} {a : ℕ} → Put out 0 (chip_reply linefeeds (ascii "NO DATA" ∷ [])) a left → count_written (Is a) left ≡ replied linefeeds spaces headers s out
-        answer_none d h e p =
-            let (ls, rest, g, n) = size_told q d in
-            replied_written ls rest g (omega arith) (rw (list_none ls rest g e) p)
+        module _ (h : n ≤ length out) where
+          pub answer_none : eqb (length s) 0 ≡ true →
+              {left : List ℕ} {a : ℕ} → Put out 0 (chip_reply linefeeds (ascii "NO DATA" ∷ [])) a left → count_written (Ok a) left ≡ replied linefeeds spaces headers s out
+          answer_none e p =
+              let (ls, rest, g, n) = size_told q in
+              replied_written ls rest g (omega arith) (rw (list_none ls rest g e) p)
 
-        pub answer_room : {n : ℕ} → r ≡ Is n → n ≤ length out → 0 < length s → LinesFit linefeeds spaces headers s out
-        answer_room d h e =
-            let (ls, rest, g, n) = size_told q d in
-            record { lines = ls; rest = rest; reads = g; fits = omega (arith, ap length (list_some ls rest g e)) }
+          pub answer_room : eqb (length s) 0 ≡ false → LinesFit linefeeds spaces headers s out
+          answer_room e =
+              let (ls, rest, g, n) = size_told q in
+              record { lines = ls; rest = rest; reads = g; fits = omega (arith, ap length (list_some ls rest g e)) }
 
-        pub answer_some : {n : ℕ} → r ≡ Is n → n ≤ length out → 0 < length s →
-            {left : List ℕ} {a : ℕ} → ((ls : List Line) (rest : List ℕ) → lines_of_list s ≡ got ls rest → Put out 0 (chip_reply linefeeds (map (line_text spaces headers) ls)) a left) →
-            count_written (Is a) left ≡ replied linefeeds spaces headers s out
-        answer_some d h e p =
-            let (ls, rest, g, n) = size_told q d in
-            replied_written ls rest g (omega arith) (rw (list_some ls rest g e) (p ls rest g))
+          pub answer_some : eqb (length s) 0 ≡ false →
+              {left : List ℕ} {a : ℕ} → ((ls : List Line) (rest : List ℕ) → lines_of_list s ≡ got ls rest → Put out 0 (chip_reply linefeeds (map (line_text spaces headers) ls)) a left) →
+              count_written (Ok a) left ≡ replied linefeeds spaces headers s out
+          answer_some e p =
+              let (ls, rest, g, n) = size_told q in
+              replied_written ls rest g (omega arith) (rw (list_some ls rest g e) (p ls rest g))

@@ -5,6 +5,10 @@ use mathlib.Core.List.{List, [], ◌∷◌, ◌++◌, map}
 use Prim.Native.Nat.{ℕ, zero, suc, ◌+◌, ◌-◌, ◌*◌, ◌≤◌, ◌<◌}
 use native.Mathlib.Nat.{mul-suc}
 use native.Mathlib.Omega.{arith}
+use lib.Dec.{eqb}
+use borrow.Author.Tests.{eqb-true}
+use Rattle.wire.proofs.Cases.{from_no}
+use Rattle.line_list.proofs.LineLaws.{line_five}
 use lib.ListN.{length, take, drop, length-append, length-drop}
 use lib.Seq.{length-take-le}
 use Rattle.wire.specs.Answer.{Answer, result, refused}
@@ -115,13 +119,13 @@ module _ (linefeeds spaces headers : Bool) where
   sized_all (got (l ∷ ls) rest) h = ap result (sym (some_length linefeeds spaces headers l ls))
 
   module _ (s : List ℕ) where
-    pub size_none : length s ≡ 0 → result (7 + length (line_ending linefeeds) + (length (line_ending linefeeds) + 1)) ≡ reply_size linefeeds spaces headers s
+    pub size_none : eqb (length s) 0 ≡ true → result (7 + length (line_ending linefeeds) + (length (line_ending linefeeds) + 1)) ≡ reply_size linefeeds spaces headers s
     unfolding reply_size lines_of_list
-    size_none h = rw (left_end line_format 64 s 0 (omega arith)) (ap result (sym (none_length linefeeds spaces headers)))
+    size_none h = rw (left_end line_format 64 s 0 (omega (arith, eqb-true (length s) 0 h))) (ap result (sym (none_length linefeeds spaces headers)))
 
-    pub size_start : (at : ℕ) → (length s ≡ 0 → ⊥) → at ≡ 0 → sized (length (line_ending linefeeds) + 1) (read_all line_format (64 - 0) (drop at s)) ≡ reply_size linefeeds spaces headers s
+    pub size_start : (at : ℕ) → eqb (length s) 0 ≡ false → at ≡ 0 → sized (length (line_ending linefeeds) + 1) (read_all line_format (64 - 0) (drop at s)) ≡ reply_size linefeeds spaces headers s
     unfolding reply_size lines_of_list
-    size_start at h e = rw e (sized_all (read_all line_format 64 s) (λ rest q. h (no_lines 64 s rest q)))
+    size_start at h e = rw e (sized_all (read_all line_format 64 s) (λ rest q. let some = rw (no_lines 64 s rest q) at h in from_no cc))
 
     -- a line at the cursor, whose size is r
     pub size_short : (at e start next r : ℕ) → LineHere s at e start next → r ≡ line_size spaces headers (next - start) + length (line_ending linefeeds) → r ≤ 773
@@ -133,21 +137,19 @@ module _ (linefeeds spaces headers : Bool) where
         ap (line_size spaces headers) (length-take-le (next - start) (drop start s) (omega (arith, w.here.inside, length-drop start s)))
 
     module _ (size n at : ℕ) where
-      pub size_line : (e start next r : ℕ) → LineHere s at e start next → r ≡ line_size spaces headers (next - start) + length (line_ending linefeeds) → n ≤ 64 → (n ≡ 64 → ⊥) →
+      pub size_line : (e start next r : ℕ) → LineHere s at e start next → r ≡ line_size spaces headers (next - start) + length (line_ending linefeeds) → n < 64 →
           sized size (read_all line_format (64 - n) (drop at s)) ≡ sized (size + r) (read_all line_format (64 - (n + 1)) (drop next s))
-      size_line e start next r w q h k =
+      size_line e start next r w q h =
           let one : 64 - n ≡ suc (64 - (n + 1)) = omega arith in
           rw (one, left_thing s at w.here (64 - (n + 1)), q, ← here_size at e start next w)
           (sized-line size (line e (take (next - start) (drop start s))) (read_all line_format (64 - (n + 1)) (drop next s)))
 
-      -- one line more than a list may have
-      pub size_full : (e start next : ℕ) → LineHere s at e start next → n ≡ 64 → sized size (read_all line_format (64 - n) (drop at s)) ≡ refused 5
-      size_full e start next w k =
-          let none : 64 - n ≡ zero = omega arith in
-          rw (none, left_full line_format s at (omega (arith, w.here.after, w.here.inside)))
+      -- more than a list may have
+      pub size_full : 64 ≤ n → at < length s → sized size (read_all line_format (64 - n) (drop at s)) ≡ refused 5
+      size_full k h = let none : 64 - n ≡ zero = omega arith in rw (none, left_full line_format s at h)
 
       pub size_end : length s ≤ at → sized size (read_all line_format (64 - n) (drop at s)) ≡ result size
       size_end h = rw (left_end line_format (64 - n) s at h) (ap result (omega arith))
 
-      pub size_bad : {j : ℕ} → at < length s → line_format.read (drop at s) ≡ failed j → sized size (read_all line_format (64 - n) (drop at s)) ≡ refused 5
-      size_bad h q = let (k, e) = left_fails line_format (64 - n) s at h q in rw e
+      pub size_bad : {j : ℕ} → at < length s → line_format.read (drop at s) ≡ failed j → sized size (read_all line_format (64 - n) (drop at s)) ≡ refused j
+      size_bad {j} h q = let (k, e) = left_fails line_format (64 - n) s at h q in rw e (ap refused (sym (line_five.five (drop at s) j q)))

@@ -74,38 +74,32 @@ fn put_header(out: &mut [u8], at: usize, ecu: u16, size: usize, style: ReplyStyl
     at
 }
 
-// The bytes after the first with a space before each, where there is room. The digits are read from a table, since the machine cannot join these stores.
-fn put_spaced(out: &mut [u8], at: usize, payload: &[u8]) -> usize
-    requires { at + length (further_hex true (drop 1 payload.now)) ≤ length out.old }
-    ensures { Put out.old at (further_hex true (drop 1 payload.now)) result out.new }
+// Bytes with a space before each, where there is room. The digits are read from a table, since the machine cannot join these stores.
+fn put_spaced(out: &mut [u8], at: usize, bytes: &[u8]) -> usize
+    requires { at + length (further_hex true bytes.now) ≤ length out.old }
+    ensures { Put out.old at (further_hex true bytes.now) result out.new }
 {
     let digits = b"0123456789ABCDEF";
     let mut to = at;
-    let mut i: usize = 1;
-    while i < payload.len() {
-        let byte = payload[i];
+    for byte in bytes {
         out[to] = b' ';
-        out[to + 1] = digits[(byte / 16) as usize];
-        out[to + 2] = digits[(byte % 16) as usize];
+        out[to + 1] = digits[usize::from(*byte / 16)];
+        out[to + 2] = digits[usize::from(*byte % 16)];
         to += 3;
-        i += 1;
     }
     to
 }
 
-// The bytes after the first with nothing before them, where there is room. The digits are computed, so that the machine can make many in one step.
-fn put_joined(out: &mut [u8], at: usize, payload: &[u8]) -> usize
-    requires { at + length (further_hex false (drop 1 payload.now)) ≤ length out.old }
-    ensures { Put out.old at (further_hex false (drop 1 payload.now)) result out.new }
+// Bytes with nothing before them, where there is room. The digits are computed, so that the machine can make many in one step.
+fn put_joined(out: &mut [u8], at: usize, bytes: &[u8]) -> usize
+    requires { at + length (further_hex false bytes.now) ≤ length out.old }
+    ensures { Put out.old at (further_hex false bytes.now) result out.new }
 {
     let mut to = at;
-    let mut i: usize = 1;
-    while i < payload.len() {
-        let byte = payload[i];
-        out[to] = hex_text::hex_char(byte / 16);
-        out[to + 1] = hex_text::hex_char(byte);
+    for byte in bytes {
+        out[to] = hex_text::hex_char(*byte / 16);
+        out[to + 1] = hex_text::hex_char(*byte);
         to += 2;
-        i += 1;
     }
     to
 }
@@ -116,14 +110,14 @@ fn put_line_text(out: &mut [u8], at: usize, ecu: u16, payload: &[u8], style: Rep
     ensures { Put out.old at (line_text style.spaces style.headers (line ecu payload.now)) result out.new }
 {
     let start = put_header(out, at, ecu, payload.len(), style);
-    if payload.is_empty() {
+    let [first, further @ ..] = payload else {
         return start;
-    }
-    let next = hex_text::put_hex_byte(out, start, payload[0]);
+    };
+    let next = hex_text::put_hex_byte(out, start, *first);
     if style.spaces {
-        return put_spaced(out, next, payload);
+        return put_spaced(out, next, further);
     }
-    put_joined(out, next, payload)
+    put_joined(out, next, further)
 }
 
 fn ending_size(linefeeds: bool) -> usize
@@ -151,11 +145,8 @@ fn data_size(n: usize, spaces: bool) -> usize
     requires { n ≤ 255 }
     ensures { result ≡ data_size spaces n }
 {
-    if n == 0 {
-        return 0;
-    }
     if spaces {
-        return 3 * n - 1;
+        return (3 * n).saturating_sub(1);
     }
     2 * n
 }
@@ -180,7 +171,7 @@ fn reply_size(list: &[u8], style: ReplyStyle) -> Result<usize, Refusal>
         return Ok(7 + ending + size);
     }
     let mut cursor = LineCursor::new();
-    for _ in 0..64 {
+    for _ in 0..64usize {
         let Some(line) = cursor.step(list)? else {
             return Ok(size);
         };

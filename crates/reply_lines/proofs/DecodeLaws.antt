@@ -12,7 +12,7 @@ use lib.ListN.{length, take, drop, get_or, set, length-append, length-take, leng
 use lib.Seq.{take-suc-set, take_all, length-take-le}
 use borrow.Author.Tests.{lt-ltb, le-ltb, ltb-false}
 use Rattle.wire.specs.Put.{Put}
-use Rattle.wire.proofs.PutLaws.{put_rest, put_nil, put_whole_lem, put_front}
+use Rattle.wire.proofs.PutLaws.{put_rest, put_whole_lem, put_front}
 use Rattle.wire.specs.Text.{without_nulls}
 use Rattle.wire.proofs.PassingLaws.{passing-length}
 use Rattle.wire.proofs.Cases.{by_test}
@@ -22,36 +22,21 @@ use Rattle.hex_text.proofs.ReadLaws.{Below, number_small, plus_bad}
 use Rattle.line_list.specs.Lines.{Line, line}
 use Rattle.reply_lines.specs.Lines.{characters}
 use Rattle.reply_lines.specs.Decode.{text_line, DecodedAs}
-use Rattle.reply_lines.specs.Steps.{CharAt, HeadOf}
 use Rattle.reply_lines.specs.declared.Decoded.{Decoded}
-use Rattle.reply_lines.specs.declared.Head.{Head}
-use Rattle.reply_lines.proofs.ScanLaws.{characters_end, char_at, char_none}
 
--- ---- pairs from position i on: two characters, none, one, and the end
-
-module _ {out left : List ℕ} {at r : ℕ} (text : List ℕ) (i : ℕ) (p : Put out at (pair_bytes (characters (drop i text))) r left) where
-  pub pairs_end : length text ≤ i → (r ≡ at) × (left ≡ out)
-  pairs_end h = put_nil (rw (characters_end text i h) at p)
-
-  module _ (a : ℕ) (pa : CharAt text i a) where
-    pub pairs_none : length text ≤ a → (r ≡ at) × (left ≡ out)
-    pairs_none h = put_nil (rw (char_none text i a pa h) at p)
-
-    module _ (ha : a < length text) (b : ℕ) (pb : CharAt text (a + 1) b) where
-      pub pairs_odd : length text ≤ b → (r ≡ at) × (left ≡ out)
-      pairs_odd h = put_nil (rw (char_at text i a pa ha, char_none text (a + 1) b pb h) at p)
-
-      pub pairs_step : {o₁ : List ℕ} {e : ℕ} → b < length text → Put out at (kept (hex_number (get_or text a 0 ∷ get_or text b 0 ∷ []))) e o₁ → Put o₁ e (pair_bytes (characters (drop (b + 1) text))) r left
-      pairs_step h q = put_rest (rw (char_at text i a pa ha, char_at text (a + 1) b pb h) at p) q
+-- ---- the pairs of a line: the first of them, and the others
+pub pairs_step : {out left o₁ : List ℕ} {at r e : ℕ} (line rest behind : List ℕ) {a b : ℕ} → Put out at (pair_bytes (characters line)) r left → characters line ≡ a ∷ characters rest → characters rest ≡ b ∷ characters behind →
+    Put out at (kept (hex_number (a ∷ b ∷ []))) e o₁ → Put o₁ e (pair_bytes (characters behind)) r left
+pairs_step line rest behind p first second q = put_rest (rw (first, second) at p) q
 
 -- ---- the first characters: one more
-pub head_step : (text chars : List ℕ) (len next i : ℕ) → len < length chars → characters text ≡ take len chars ++ characters (drop next text) → CharAt text next i → i < length text →
-    characters text ≡ take (len + 1) (set chars len (get_or text i 0)) ++ characters (drop (i + 1) text)
-head_step text chars len next i h q p k =
+pub head_step : (text head rest : List ℕ) (i c : ℕ) {s : List ℕ} → i < length head → characters text ≡ take i head ++ characters rest → characters rest ≡ c ∷ s →
+    characters text ≡ take (i + 1) (set head i c) ++ s
+head_step text head rest i c {s} h q e =
     q
-    ∙ ap (λ (l : List ℕ). take len chars ++ l) (char_at text next i p k)
-    ∙ sym (append_assoc (take len chars) (get_or text i 0 ∷ []) (characters (drop (i + 1) text)))
-    ∙ rw (add-one len, take-suc-set chars len (get_or text i 0) h)
+    ∙ ap (λ (l : List ℕ). take i head ++ l) e
+    ∙ sym (append_assoc (take i head) (c ∷ []) s)
+    ∙ rw (add-one i, take-suc-set head i c h)
 
 -- ---- the line of a text: unframed, too short to be framed, and framed
 
@@ -80,18 +65,17 @@ pub line_plus : (text s t : List ℕ) → 5 ≤ length (characters text) → tak
 unfolding text_line
 line_plus text s t h e = rw (le-ltb (length (characters text)) 5 h, e, plus_bad s t)
 
--- by its first characters
-module _ (text : List ℕ) (h : Head) (p : HeadOf text h) where
-  pub head_short : h.len < 5 → text_line true text ≡ line 0 (take h.len h.chars)
-  head_short k =
-      let q : characters text ≡ take h.len h.chars = p.whole ∙ ap (λ (l : List ℕ). take h.len h.chars ++ l) (p.short k) ∙ append-nil (take h.len h.chars) in
-      line_short text (omega (arith, ap length q, length-take h.len h.chars)) ∙ rw q
+-- by its first characters, where none is left and where there are five
+module _ (text head left : List ℕ) (i : ℕ) (five : length head ≡ 5) (p : characters text ≡ take i head ++ characters left) where
+  pub head_short : i < 5 → characters left ≡ [] → text_line true text ≡ line 0 (take i head)
+  head_short k e =
+      let q : characters text ≡ take i head = p ∙ ap (λ (l : List ℕ). take i head ++ l) e ∙ append-nil (take i head) in
+      line_short text (omega (arith, ap length q, length-take i head)) ∙ rw q
 
-  pub head_framed : 5 ≤ h.len →
-      text_line true text ≡ line (suc (Option.get_or (hex_number (get_or h.chars 0 0 ∷ get_or h.chars 1 0 ∷ get_or h.chars 2 0 ∷ [])) 0)) (pair_bytes (characters (drop h.next text)))
+  pub head_framed : 5 ≤ i → text_line true text ≡ line (suc (Option.get_or (hex_number (get_or head 0 0 ∷ get_or head 1 0 ∷ get_or head 2 0 ∷ [])) 0)) (pair_bytes (characters left))
   head_framed k =
-      let t : take h.len h.chars ≡ h.chars = take_all h.len h.chars (omega (arith, p.five)) in
-      line-framed text h.chars (characters (drop h.next text)) (p.whole ∙ rw t) p.five
+      let t : take i head ≡ head = take_all i head (omega arith) in
+      line-framed text head (characters left) (p ∙ rw t) five
 
 -- ---- how large a line is
 

@@ -11,10 +11,10 @@ use borrow.Author.Tests.{ltb-true, ltb-false}
 use Rattle.wire.proofs.Cases.{by_test}
 use Rattle.reply_lines.specs.Lines.{trim_start, trimmed, stays, text_lines}
 use Rattle.reply_lines.specs.Decode.{text_line, lines_of_reply}
-use Rattle.reply_lines.specs.Reader.{TextPlace, text_step, line_from, step_text}
+use Rattle.reply_lines.specs.Reader.{text_step, line_from, step_text}
 use Rattle.reply_lines.specs.Steps.{to_cr}
-use Rattle.reply_lines.specs.declared.TextStep.{TextStep}
-use Rattle.reply_lines.specs.declared.TextStep.TheVariants as step
+use Rattle.reply_lines.specs.declared.TextPlace.{TextPlace}
+use Rattle.std.specs.Prelude as rust
 use Rattle.reply_lines.proofs.TurnLaws.{part, cr_inside, next-after, text_fits, end_fits, text-part, text-line, text_skip, text_end, from-line, from_skip, from_end}
 
 -- the next line that stays, from position at on
@@ -78,14 +78,13 @@ pub line-found : (reply : List ℕ) (at : ℕ) → Found reply at (line_from rep
 line-found reply at = found (length reply - at) reply at (omega arith)
 
 -- an answer with a line: its bounds, and the line with those that are left
-pub step_line : (reply : List ℕ) (at : ℕ) {r : TextStep} {start end next : ℕ} → text_step r ≡ line_from reply at → r ≡ step.Text start end next →
-    LineHere reply at (record { start = start; end = end; next = next })
-step_line reply at {r} {start} {end} {next} q e =
-    let p : line_from reply at ≡ some (record { start = start; end = end; next = next }) = sym q ∙ ap text_step e in
+pub step_line : (reply : List ℕ) (at : ℕ) {r : rust.Option TextPlace} {place : TextPlace} → text_step r ≡ line_from reply at → r ≡ rust.Some place → LineHere reply at place
+step_line reply at {r} {place} q e =
+    let p : line_from reply at ≡ some place = sym q ∙ ap text_step e in
     rw p at (line-found reply at)
 
 -- an answer with none: no line is left
-pub step_end : (reply : List ℕ) (at : ℕ) {r : TextStep} → text_step r ≡ line_from reply at → r ≡ step.End → text_lines (drop at reply) ≡ []
+pub step_end : (reply : List ℕ) (at : ℕ) {r : rust.Option TextPlace} → text_step r ≡ line_from reply at → r ≡ rust.None → text_lines (drop at reply) ≡ []
 step_end reply at {r} q e =
     let p : line_from reply at ≡ none = sym q ∙ ap text_step e in
     rw p at (line-found reply at)

@@ -8,7 +8,8 @@ use lib.ListN.{length, drop, get_or, drop_of_length-le}
 use lib.Seq.{drop-nil, get_or-drop}
 use Rattle.wire.proofs.Cases.{from_no}
 use Rattle.reply_lines.specs.Lines.{text_lines}
-use Rattle.reply_lines.specs.Reader.{TextPlace, line_from, past_step, step_text, position_after}
+use Rattle.reply_lines.specs.declared.TextPlace.{TextPlace}
+use Rattle.reply_lines.specs.Reader.{line_from, past_step, step_text, position_after}
 use Rattle.reply_lines.proofs.LineLaws.{Found, line-found}
 
 -- a step gives the first of the lines that are left, and leaves the others

@@ -1,14 +1,14 @@
 // The lines of a reply (parse_lines and decode_hex of the Rust's client_session.rs).
 #![tactic(auto)]
 
-ghost use Rattle.std.specs.Prelude.{◌≡◌, [], ◌∷◌, suc, ◌+◌, ◌-◌, ◌≤◌, min, length, take, drop, get_or};
+ghost use Rattle.std.specs.Prelude.{◌≡◌, [], ◌∷◌, suc, ◌-◌, ◌<◌, length, take, drop, get_or, MatchOption};
 ghost use Rattle.std.proofs.Math.Option;
 ghost use Rattle.wire.specs.Put.{Put};
 ghost use Rattle.hex_text.specs.Read.{hex_number, kept, pair_bytes};
 ghost use Rattle.reply_lines.specs.Lines.{is_trimmed, trim_start, trim_end, stays, text_lines, characters};
 ghost use Rattle.reply_lines.specs.Decode.{text_line, DecodedAs};
 ghost use Rattle.reply_lines.specs.Reader.{text_step, line_from, past_step, step_text};
-ghost use Rattle.reply_lines.specs.Steps.{to_cr, is_skipped, CharAt, HeadOf};
+ghost use Rattle.reply_lines.specs.Steps.{to_cr, is_skipped};
 
 // A line of a reply that counts: its text is reply[start..end], and the next line is looked for from next on.
 #[derive(Clone, Copy)]
@@ -25,90 +25,64 @@ pub struct Decoded {
     pub len: usize,
 }
 
-// Where the first CR stands from position at on, or the end of the reply.
-fn find_cr(reply: &[u8], at: usize) -> usize
-    requires { at ≤ length reply.now }
-    ensures { result ≡ at + to_cr (drop at reply.now) }
+// How many bytes stand before the first CR, or all of them.
+fn to_cr(s: &[u8]) -> usize
+    ensures { result ≡ to_cr s.now }
 {
-    let mut i = at;
-    while i < reply.len() {
-        if reply[i] == 13 {
+    for (i, &b) in s.iter().enumerate() {
+        if b == b'\r' {
             return i;
         }
-        i += 1;
     }
-    i
+    s.len()
 }
 
-// Where the line after the one that ends at cr starts.
-fn past_cr(reply: &[u8], cr: usize) -> usize
-    requires { cr ≤ length reply.now }
-    ensures { result ≡ min (cr + 1) (length reply.now) }
-{
-    if cr < reply.len() {
-        return cr + 1;
-    }
-    cr
-}
-
-// Whether a byte goes at the ends of a line: 00, which a reader skips, and white space. One test settles digits and letters.
+// Whether a byte goes at the ends of a line: 00, which a reader skips, and white space.
+#[tactic(auto, unfolding(wire::specs::Text::is_space))]
 fn is_trimmed(b: u8) -> bool
     ensures { result ≡ is_trimmed b }
 {
-    if 32 < b {
-        return false;
-    }
-    (b == 0) | wire::is_space(b)
+    matches!(b, 0 | 9..=13 | 32)
 }
 
 // The part without 00 and white space in front.
-fn trim_start(s: &[u8]) -> &[u8]
+fn trim_start(mut s: &[u8]) -> &[u8]
     ensures { result.now ≡ trim_start s.now }
 {
-    let mut i: usize = 0;
-    while i < s.len() {
-        let b = s[i];
-        if !is_trimmed(b) {
-            return &s[i..];
-        }
-        i += 1;
+    while let [first, rest @ ..] = s
+        && is_trimmed(*first)
+    {
+        s = rest;
     }
-    &s[..0]
+    s
 }
 
 // The part without 00 and white space at its end.
-fn trim_end(s: &[u8]) -> &[u8]
+fn trim_end(mut s: &[u8]) -> &[u8]
     ensures { result.now ≡ trim_end s.now }
 {
-    let mut end = s.len();
-    while 0 < end {
-        let b = s[end - 1];
-        if !is_trimmed(b) {
-            return &s[..end];
-        }
-        end -= 1;
+    while let [rest @ .., last] = s
+        && is_trimmed(*last)
+    {
+        s = rest;
     }
-    &s[..0]
+    s
 }
 
 // Whether a trimmed line is kept.
 fn stays(text: &[u8]) -> bool
     ensures { result ≡ stays text.now }
 {
-    if text.is_empty() {
-        return false;
-    }
-    !wire::has(text, b'>')
+    !text.is_empty() && !wire::has(text, b'>')
 }
 
 // The next line that stays, from position at on, or none.
-pub fn next_line(reply: &[u8], at: usize) -> Option<TextPlace>
+pub fn next_line(reply: &[u8], mut at: usize) -> Option<TextPlace>
     ensures { text_step result ≡ line_from reply.now at }
 {
-    let mut at = at;
     while at < reply.len() {
-        let cr = find_cr(reply, at);
-        let next = past_cr(reply, cr);
+        let cr = at + to_cr(&reply[at..]);
+        let next = (cr + 1).min(reply.len());
         let text = trim_start(&reply[at..cr]);
         let start = cr - text.len();
         let trimmed = trim_end(text);
@@ -143,28 +117,23 @@ fn past_step(at: usize, step: Option<TextPlace>) -> usize
 }
 
 // The part of a reply from start to end, as far as the reply reaches.
-fn part<'a>(reply: &'a [u8], start: usize, end: usize) -> &'a [u8]
+fn part(reply: &[u8], start: usize, end: usize) -> &[u8]
     ensures { result.now ≡ take (end - start) (drop start reply.now) }
 {
-    if reply.len() <= start {
-        return &reply[..0];
-    }
+    let end = end.min(reply.len());
     if end <= start {
-        return &reply[..0];
-    }
-    if reply.len() <= end {
-        return &reply[start..];
+        return &[];
     }
     &reply[start..end]
 }
 
 // The text of a step over a reply.
-fn step_text<'a>(reply: &'a [u8], step: Option<TextPlace>) -> &'a [u8]
+fn step_text(reply: &[u8], step: Option<TextPlace>) -> &[u8]
     ensures { result.now ≡ step_text reply.now (text_step step) }
 {
     match step {
         Some(line) => part(reply, line.start, line.end),
-        None => &reply[..0],
+        None => &[],
     }
 }
 
@@ -177,15 +146,13 @@ impl<'a> LineReader<'a> {
     }
 
     // The next line, and the reader moves past it; none, and it stays, when no line is left.
-    pub fn next_line<'s>(&'s mut self) -> Option<TextPlace>
+    pub fn next_line(&mut self) -> Option<TextPlace>
         ensures { (text_step result ≡ line_from self.old.reply.now self.old.at)
             × (self.new.reply ≡ self.old.reply)
             × (self.new.at ≡ past_step self.old.at (line_from self.old.reply.now self.old.at)) }
     {
-        let reply = self.reply;
-        let at = self.at;
-        let step = next_line(reply, at);
-        self.at = past_step(at, step);
+        let step = next_line(self.reply, self.at);
+        self.at = past_step(self.at, step);
         step
     }
 
@@ -198,7 +165,7 @@ impl<'a> LineReader<'a> {
 }
 
 // The text of a reply's first line, a part of the reply with any 00 that stands inside it; nothing where it has none.
-pub fn first_text<'a>(reply: &'a [u8]) -> &'a [u8]
+pub fn first_text(reply: &[u8]) -> &[u8]
     ensures { result.now ≡ get_or (text_lines reply.now) 0 [] }
 {
     let mut reader = LineReader::new(reply);
@@ -206,38 +173,24 @@ pub fn first_text<'a>(reply: &'a [u8]) -> &'a [u8]
     reader.text(step)
 }
 
-// A line's first characters, at most five, and where the rest of it starts.
-#[derive(Clone, Copy)]
-struct Head {
-    chars: [u8; 5],
-    len: usize,
-    next: usize,
-}
-
-// Whether a byte inside a line is no character of it: 00 or 20. One test settles digits and letters.
+// Whether a byte inside a line is no character of it: 00 or 20.
 fn is_skipped(b: u8) -> bool
     ensures { result ≡ is_skipped b }
 {
-    if 32 < b {
-        return false;
-    }
-    (b == 0) | (b == 32)
+    matches!(b, 0 | 32)
 }
 
-// Where the next character stands, from position at on, or the end of the text.
-fn next_char(text: &[u8], at: usize) -> usize
-    requires { at ≤ length text.now }
-    ensures { CharAt text.now at result }
+// The first character of a line, and what stands behind it.
+fn split_char(mut line: &[u8]) -> Option<(u8, &[u8])>
+    ensures { MatchOption result (characters line.now ≡ []) (λ p. (characters line.now ≡ p.0 ∷ characters p.1.now) × (length p.1.now < length line.now)) }
 {
-    let mut i = at;
-    while i < text.len() {
-        let b = text[i];
-        if !is_skipped(b) {
-            return i;
+    while let [first, rest @ ..] = line {
+        if !is_skipped(*first) {
+            return Some((*first, rest));
         }
-        i += 1;
+        line = rest;
     }
-    i
+    None
 }
 
 // The byte of a good pair, from position at on; a bad one is skipped.
@@ -250,49 +203,19 @@ fn put_pair(out: &mut [u8], at: usize, a: u8, b: u8) -> usize
     }
 }
 
-// The bytes of the pairs of a text from position at on, 00 and 20 skipped, stored at the front of out.
-fn put_pairs(out: &mut [u8], text: &[u8], at: usize) -> usize
-    requires { at ≤ length text.now }
-    ensures { Put out.old 0 (pair_bytes (characters (drop at text.now))) result out.new }
+// The bytes of the pairs of a line, stored at the front of out.
+fn put_pairs(out: &mut [u8], mut line: &[u8]) -> usize
+    ensures { Put out.old 0 (pair_bytes (characters line.now)) result out.new }
 {
-    let mut len: usize = 0;
-    let mut i = at;
-    while i < text.len() {
-        let a = next_char(text, i);
-        if text.len() <= a {
+    let mut len = 0;
+    while let Some((a, rest)) = split_char(line) {
+        let Some((b, rest)) = split_char(rest) else {
             return len;
-        }
-        let b = next_char(text, a + 1);
-        if text.len() <= b {
-            return len;
-        }
-        len = put_pair(out, len, text[a], text[b]);
-        i = b + 1;
+        };
+        len = put_pair(out, len, a, b);
+        line = rest;
     }
     len
-}
-
-// The first characters of a line.
-fn read_head(text: &[u8]) -> Head
-    ensures { HeadOf text.now result }
-{
-    let mut chars = [0u8; 5];
-    let mut len: usize = 0;
-    let mut next: usize = 0;
-    while len < 5 {
-        let i = next_char(text, next);
-        if text.len() <= i {
-            return Head {
-                chars,
-                len,
-                next: i,
-            };
-        }
-        chars[len] = text[i];
-        len += 1;
-        next = i + 1;
-    }
-    Head { chars, len, next }
 }
 
 // ECU+1 of an id's characters: a bad id is 000.
@@ -310,19 +233,21 @@ pub fn decode_line(text: &[u8], framing: bool, data: &mut [u8]) -> Decoded
     ensures { DecodedAs (text_line framing text.now) «data».old result «data».new }
 {
     if !framing {
-        let len = put_pairs(data, text, 0);
+        let len = put_pairs(data, text);
         return Decoded { ecu: 0, len };
     }
-    let head = read_head(text);
-    let chars = head.chars;
-    let count = head.len;
-    // Too short for id and length byte: its characters are the data.
-    if count < 5 {
-        let len = wire::put(data, 0, &chars[..count]);
-        return Decoded { ecu: 0, len };
+    let mut head = [0u8; 5];
+    let mut left = text;
+    for i in 0..5 {
+        let Some((char, rest)) = split_char(left) else {
+            // Too short for id and length byte: its characters are the data.
+            let len = wire::put(data, 0, &head[..i]);
+            return Decoded { ecu: 0, len };
+        };
+        head[i] = char;
+        left = rest;
     }
-    let next = head.next;
-    let len = put_pairs(data, text, next);
-    let ecu = ecu_of(chars[0], chars[1], chars[2]);
+    let len = put_pairs(data, left);
+    let ecu = ecu_of(head[0], head[1], head[2]);
     Decoded { ecu, len }
 }

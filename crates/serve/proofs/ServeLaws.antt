@@ -7,6 +7,7 @@ use native.Mathlib.Omega.{arith}
 use lib.Dec.{eqb, leb}
 use lib.ListN.{length}
 use borrow.Author.Tests.{eqb-true, eqb-false, ne_eqb, le-ltb}
+use Rattle.std.specs.Prelude.{Result, Err}
 use Rattle.wire.specs.Answer.{Answer, result, refused, number, unless}
 use Rattle.wire.specs.declared.Refusal.{Refusal}
 use Rattle.wire.specs.Text.{ascii}
@@ -14,8 +15,6 @@ use Rattle.wire.proofs.Cases.{by_test}
 use Rattle.line_list.specs.Lines.{lines_bytes}
 use Rattle.server_session.specs.declared.Phase.{Phase}
 use Rattle.server_session.specs.declared.Phase.TheVariants.{Reading, AtCommand, ObdCommand}
-use Rattle.server_session.specs.declared.ServerAnswer.{ServerAnswer}
-use Rattle.server_session.specs.declared.ServerAnswer.TheVariants.{Refused}
 use Rattle.server_session.specs.declared.ServerStep.{ServerStep}
 use Rattle.server_session.specs.Session.{Session, is_reading}
 use Rattle.server_session.specs.Call.{ServerSaid, ServerServed, server_answer, server_step, server_lent}
@@ -26,13 +25,6 @@ use Rattle.server_session.proofs.BytesLaws.{bytes_on, bytes_stop}
 use Rattle.server_session.proofs.ReplyLaws.{answer_fits, reply_fits}
 use Rattle.serve.specs.Vehicle.{vehicle}
 use Rattle.serve.specs.Serve.{dealt_with, served_in, serve_says}
-
--- a byte that is refused
-pub dealt_room : (a : ServerAnswer) (q : Refusal) (n : ℕ) → a ≡ Refused q → number q ≡ 6 → n ≡ dealt_with (server_answer a) n
-dealt_room a q n e f = rw (e, f)
-
-pub dealt_past : (a : ServerAnswer) (q : Refusal) (n : ℕ) → a ≡ Refused q → (number q ≡ 6 → ⊥) → n + 1 ≡ dealt_with (server_answer a) n
-dealt_past a q n e f = rw (e, ne_eqb (number q) 6 f)
 
 -- what comes after a byte that is taken
 dealt_after : (a : Answer Phase) (n : ℕ) → dealt_with a (1 + n) ≡ 1 + dealt_with a n
@@ -99,18 +91,6 @@ hear_dealt s input out left r f h e =
 -- The answer to a command
 
 module _ (room : ℕ) (s : Session) where
-  pub serve_at : s.phase ≡ AtCommand → answer_says room s (ascii "ELM327 v1.5") (ascii "ELM327") ≡ serve_says room s
-  unfolding serve_says
-  serve_at e = sym (ap (λ p. served_in p room s) e)
-
-  pub serve_obd : s.phase ≡ ObdCommand → reply_says room s (lines_bytes (vehicle s.line)) ≡ serve_says room s
-  unfolding serve_says
-  serve_obd e = sym (ap (λ p. served_in p room s) e)
-
-  pub serve_nothing : s.phase ≡ Reading → record { answer = result Reading; taken = 0; next = s; text = [] } ≡ serve_says room s
-  unfolding serve_says
-  serve_nothing e = ap (λ p. record { answer = result p; taken = 0; next = s; text = [] }) (sym e) ∙ sym (ap (λ p. served_in p room s) e)
-
   serve_fits : length (serve_says room s).text ≤ room
   unfolding serve_says
   serve_fits = go s.phase

@@ -1,16 +1,18 @@
+-- `replay::agreeing` meets its contract: it counts the pairs before the first of bytes that differ.
 use mathlib.Core.Path.{◌∙◌}
 use borrow.Author.Rules.{rules}
-use Rattle.replay.proofs.CompareLaws.{stop_short, stop_differ, agree_next, stop_end}
+use lib.Dec.{eqb}
+use Rattle.std.proofs.lemmas.Iterator.{YieldsList-from_slice, YieldsList-from_zip}
+use Rattle.std.proofs.lemmas.Iterator.Consumers.{count_from_yields_List}
+use Rattle.std.proofs.lemmas.Iterator.Search.{YieldsList-from_take_while}
+use Rattle.replay.proofs.CompareLaws.{agreeing_pairs}
 use Rattle.replay.proofs.agreeing.Goals as goal
 
-pub returns-then-stored-i : goal.returns-then-stored-i
-returns-then-stored-i c = stop_short _ _ _ c.if-stored-i.true ∙ c.loop-i.invariant.1
-
-pub returns-then-ours-i : goal.returns-then-ours-i
-returns-then-ours-i c = stop_differ _ _ _ c.loop-i-test.true c.if-stored-i.false c.if-ours-i.true ∙ c.loop-i.invariant.1
-
-pub loop-i-preserved : goal.loop-i-preserved
-loop-i-preserved c = (search rules, agree_next _ _ _ c.loop-i-test.true c.if-stored-i.false c.if-ours-i.false ∙ c.loop-i.invariant.1)
-
 pub returns : goal.returns
-returns c = stop_end _ _ _ c.loop-i-test.false ∙ c.loop-i.invariant.1
+returns c =
+    let s = c.args.ours.now in
+    let t = c.args.stored.now in
+    count_from_yields_List c.take_while.result c.count.result c.count.ensures.ran
+    (YieldsList-from_take_while {s = c.take_while.result} _ (λ p. eqb p.0 p.1)
+    (YieldsList-from_zip (YieldsList-from_slice s (cc)) (YieldsList-from_slice t (cc))) (cc) (cc) (λ x b q k. search rules)) ∙
+    agreeing_pairs s t

@@ -1,69 +1,52 @@
-use mathlib.Core.Path.{refl, sym, ◌∙◌}
+use mathlib.Core.Path.{sym, ap, ◌∙◌}
 use native.Mathlib.Omega.{arith}
+use Rattle.wire.specs.Answer.{count_answer}
+use Rattle.wire.proofs.TryLaws.{passed_on}
 use Rattle.reply.proofs.SizeLaws.{ending_short, size_none, size_start, size_line, size_short, size_end, size_bad, size_full}
 use Rattle.line_list.proofs.StepLaws.{step_line, step_end, step_none}
 use Rattle.reply.proofs.reply_size.Goals as goal
 
-pub overflow_add-size : goal.overflow_add-size
-overflow_add-size c = omega (arith, ending_short c.args.linefeeds, c.ending_size-ending.ensures)
+pub returns-then-is_empty : goal.returns-then-is_empty
+returns-then-is_empty c = rw c.ending_size-ending.ensures (size_none _ _ _ _ (sym c.if-is_empty.ensures))
 
-pub overflow_add-result : goal.overflow_add-result
-overflow_add-result c = omega (arith, ending_short c.args.linefeeds, c.ending_size-ending.ensures)
+pub loop-init : goal.loop-init
+loop-init c = record {
+  short = omega (arith, ending_short c.args.style.linefeeds, c.ending_size-ending.ensures);
+  sum = rw c.ending_size-ending.ensures (size_start _ _ _ _ _ (sym c.if-is_empty.ensures) c.new-cursor.ensures);
+}
 
-pub overflow_add-result-then-list-eq0 : goal.overflow_add-result-then-list-eq0
-overflow_add-result-then-list-eq0 c = omega (arith, ending_short c.args.linefeeds, c.ending_size-ending.ensures)
+pub returns-in_err-line : goal.returns-in_err-line
+returns-in_err-line c =
+    let loop = c.loop in
+    let n = step_none _ _ _ c.in_err-line.ensures in
+    ap count_answer (passed_on c.from_residual.ensures) ∙ sym (size_bad _ _ _ _ loop.size loop.counter _ n.0 n.1) ∙ loop.invariant.sum
 
-pub returns-then-list-eq0 : goal.returns-then-list-eq0
-returns-then-list-eq0 c = rw c.ending_size-ending.ensures (size_none _ _ _ _ c.if-list-eq0.true)
+pub returns-in_default : goal.returns-in_default
+returns-in_default c =
+    let loop = c.loop in
+    sym (size_end _ _ _ _ loop.size loop.counter _ (step_end _ _ (rw c.in_default.is at c.in_ok-line.ensures))) ∙ loop.invariant.sum
 
-pub loop-start-init : goal.loop-start-init
-loop-start-init c =
-    (omega arith, omega (arith, ending_short c.args.linefeeds, c.ending_size-ending.ensures), rw c.ending_size-ending.ensures (size_start _ _ _ _ _ c.if-list-eq0.false refl))
-
-pub returns-then-lines-eq64 : goal.returns-then-lines-eq64
-returns-then-lines-eq64 c =
-    let w = step_line _ _ c.step.ensures c.in-Line.is in
-    sym (size_full _ _ _ _ _ _ _ _ _ _ w c.if-lines-eq64.true) ∙ c.loop-start.invariant.2
-
-pub overflow_sub-end : goal.overflow_sub-end
-overflow_sub-end c = let w = step_line _ _ c.step.ensures c.in-Line.is in omega arith
+pub overflow_sub-line : goal.overflow_sub-line
+overflow_sub-line c = (step_line _ _ (rw c.in-Some.is at c.in_ok-line.ensures)).ordered
 
 pub line_size-size-requires : goal.line_size-size-requires
-line_size-size-requires c = let w = step_line _ _ c.step.ensures c.in-Line.is in w.short
+line_size-size-requires c = (step_line _ _ (rw c.in-Some.is at c.in_ok-line.ensures)).short
 
-pub overflow_add-size-in-Line : goal.overflow_add-size-in-Line
-overflow_add-size-in-Line c =
-    omega (
-      arith,
-      size_short c.args.linefeeds c.args.spaces c.args.headers _ _ _ _ _ _ (step_line _ _ c.step.ensures c.in-Line.is)
-          c.line_size-size.ensures,
-    )
+pub overflow_add-size-in-loop : goal.overflow_add-size-in-loop
+overflow_add-size-in-loop c =
+    let style = c.args.style in
+    let line = step_line _ _ (rw c.in-Some.is at c.in_ok-line.ensures) in
+    omega (arith, size_short style.linefeeds style.spaces style.headers _ _ _ _ _ _ line c.line_size-size.ensures)
 
-pub loop-start-smaller : goal.loop-start-smaller
-loop-start-smaller c = omega (arith, c.if-lines-eq64.false)
+pub loop-preserved : goal.loop-preserved
+loop-preserved c =
+    let loop = c.loop in
+    let style = c.args.style in
+    let line = step_line _ _ (rw c.in-Some.is at c.in_ok-line.ensures) in
+    record {
+      short = omega (arith, size_short style.linefeeds style.spaces style.headers _ _ _ _ _ _ line c.line_size-size.ensures);
+      sum = sym (size_line _ _ _ _ loop.size loop.counter _ _ _ _ _ line c.line_size-size.ensures c.loop-test.true) ∙ loop.invariant.sum;
+    }
 
-pub loop-start-preserved : goal.loop-start-preserved
-loop-start-preserved c =
-    let inv = c.loop-start.invariant in
-    let w = step_line _ _ c.step.ensures c.in-Line.is in (
-      omega (arith, c.if-lines-eq64.false),
-      omega (
-        arith,
-        size_short c.args.linefeeds
-            c.args.spaces
-            c.args.headers _ _ _ _ _ _ w c.line_size-size.ensures,
-      ),
-      sym (size_line _ _ _ _ _ _ _ _ _ _ _ w c.line_size-size.ensures inv.0 c.if-lines-eq64.false) ∙ inv.2,
-    )
-
-pub returns-in-End : goal.returns-in-End
-returns-in-End c =
-    sym (size_end c.args.linefeeds c.args.spaces c.args.headers _ c.loop-start.size c.loop-start.lines _
-    (step_end _ _ c.step.ensures c.in-End.is)) ∙
-    c.loop-start.invariant.2
-
-pub returns-in-Refused : goal.returns-in-Refused
-returns-in-Refused c =
-    let n = step_none _ _ c.step.ensures c.in-Refused.is in
-    sym (size_bad c.args.linefeeds c.args.spaces c.args.headers _ c.loop-start.size c.loop-start.lines _ n.0 n.1) ∙
-    c.loop-start.invariant.2
+pub returns : goal.returns
+returns c = let loop = c.loop in sym (size_full _ _ _ _ loop.size loop.counter _ c.loop-test.false c.if-list-cursor.false) ∙ loop.invariant.sum

@@ -8,8 +8,11 @@ use Rattle.line_list.specs.Lines.{line_format}
 use Rattle.group.specs.Format.{read_all}
 use Rattle.reply.proofs.reply_size.Given as goal
 
-abbrev pub invariant-loop-start : goal.invariant-loop-start
-invariant-loop-start l = (l.lines ≤ 64) × (l.size ≤ 3 + 773 * l.lines) × (sized l.linefeeds l.spaces l.headers l.size (read_all line_format (64 - l.lines) (drop l.cursor.at l.list)) ≡ reply_size l.linefeeds l.spaces l.headers l.list)
-
-abbrev pub decreases-loop-start : goal.decreases-loop-start
-decreases-loop-start l = 64 - l.lines
+abbrev pub invariant-loop : goal.invariant-loop
+invariant-loop l =
+    let style = l.style in
+    record {
+      short : l.size ≤ 3 + 773 * l.counter;
+      sum : sized style.linefeeds style.spaces style.headers l.size (read_all line_format (64 - l.counter) (drop l.cursor.at l.list)) ≡
+          reply_size style.linefeeds style.spaces style.headers l.list;
+    }

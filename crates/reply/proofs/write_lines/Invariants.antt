@@ -9,9 +9,16 @@ use Rattle.line_list.specs.Lines.{Line, lines_of_list}
 use Rattle.group.specs.Group.{got}
 use Rattle.reply.proofs.write_lines.Given as goal
 
-abbrev pub invariant-loop-ecu : goal.invariant-loop-ecu
-invariant-loop-ecu l = (length l.out ≡ length l.initial.out) × ((ls : List Line) (rest : List ℕ) → lines_of_list l.list ≡ got ls rest →
-    Left l.linefeeds l.spaces l.headers l.list l.out l.cursor.at l.at (0 + min (length (lines_text l.linefeeds l.spaces l.headers ls)) (length l.initial.out - 0)) (sets l.initial.out 0 (lines_text l.linefeeds l.spaces l.headers ls)))
+abbrev pub invariant-loop-line : goal.invariant-loop-line
+invariant-loop-line l =
+    let style = l.style in
+    record {
+      size : length l.out ≡ length l.initial.out;
+      others : (ls : List Line) (rest : List ℕ) → lines_of_list l.list ≡ got ls rest →
+          Left style.linefeeds style.spaces style.headers l.list l.out l.cursor.at l.at
+          (0 + min (length (lines_text style.linefeeds style.spaces style.headers ls)) (length l.initial.out - 0))
+          (sets l.initial.out 0 (lines_text style.linefeeds style.spaces style.headers ls));
+    }
 
-abbrev pub decreases-loop-ecu : goal.decreases-loop-ecu
-decreases-loop-ecu l = length l.list - l.cursor.at
+abbrev pub decreases-loop-line : goal.decreases-loop-line
+decreases-loop-line l = length l.list - l.cursor.at

@@ -1,12 +1,10 @@
--- `reply_lines::trim_end` meets its contract. The invariant: what stands before end, trimmed, is the whole, trimmed.
-use mathlib.Core.Path.{◌≡◌}
-use Prim.Native.Nat.{◌≤◌}
-use lib.ListN.{length, take}
+-- `reply_lines::trim_end` meets its contract. The invariant: what is left, trimmed, is the whole, trimmed.
+use Rattle.std.proofs.Common.{◌≡◌, length}
 use Rattle.reply_lines.specs.Lines.{trim_end}
 use Rattle.reply_lines.proofs.trim_end.Given as goal
 
-abbrev pub invariant-loop-end : goal.invariant-loop-end
-invariant-loop-end l = (l.end ≤ length l.s) × (trim_end (take l.end l.s) ≡ trim_end l.s)
+abbrev pub invariant-loop-s : goal.invariant-loop-s
+invariant-loop-s l = trim_end l.s ≡ trim_end l.fn.s
 
-abbrev pub decreases-loop-end : goal.decreases-loop-end
-decreases-loop-end l = l.end
+abbrev pub decreases-loop-s : goal.decreases-loop-s
+decreases-loop-s l = length l.s

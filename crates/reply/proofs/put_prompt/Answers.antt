@@ -1,6 +1,0 @@
--- `reply::put_prompt` meets its contract: its writers follow one another.
-use Rattle.wire.proofs.PutLaws.{put_then}
-use Rattle.reply.proofs.put_prompt.Goals as goal
-
-pub returns : goal.returns
-returns c = put_then c.put_line_ending-next.ensures c.put_byte.ensures
