@@ -1,16 +1,15 @@
 -- Laws of one query: its start, and its end by what its reply said.
-use mathlib.Core.Path.{◌≡◌, refl, sym, ap, subst, ◌∙◌}
-use mathlib.Core.Bool.{true, false, not}
-use mathlib.Core.List.{List, [], ◌∷◌}
+use mathlib.Core.Path.{◌≡◌, sym, ap, subst, ◌∙◌}
+use mathlib.Core.Bool.{not}
+use mathlib.Core.List.{List}
 use Prim.Native.Nat.{ℕ, ◌≤◌}
 use native.Mathlib.Omega.{arith}
 use lib.Dec.{eqb}
-use lib.ListN.{length, take, drop, get_or, length-take}
-use borrow.Author.Tests.{ltb-false, le-ltb, eq-eqb, ne_eqb}
+use lib.ListN.{length, take, length-take}
+use borrow.Author.Tests.{ltb-false, le-ltb}
 use Rattle.wire.specs.declared.Refusal.{Refusal}
-use Rattle.std.specs.Prelude.{Result, Ok, Err}
-use Rattle.wire.specs.Answer.{Answer, result, refused, number, unless}
-use Rattle.wire.proofs.Cases.{from_no}
+use Rattle.std.specs.Prelude.{Result, Ok}
+use Rattle.wire.specs.Answer.{unless}
 use Rattle.wire.proofs.UnlessLaws.{unless_by}
 use Rattle.value.specs.Values.{values_bytes}
 use Rattle.reply_lines.specs.Decode.{lines_of_reply}
@@ -22,18 +21,15 @@ use Rattle.server_session.specs.Session.{session}
 use Rattle.client_session.specs.declared.ClientStep.{ClientStep}
 use Rattle.client_session.specs.Session.{Client, client}
 use Rattle.client_session.specs.declared.ClientAnswer.{ClientAnswer}
-use Rattle.client_session.specs.declared.ClientError.{ClientError}
-use Rattle.client_session.specs.Call.{Progress, ClientSaid, ClientServed, client_lent, refusal_of, client_answer, client_step}
-use Rattle.client_session.specs.Start.{query_says}
+use Rattle.client_session.specs.Call.{ClientSaid, ClientServed, client_lent, client_answer, client_step}
 use Rattle.client_session.specs.Piece.{reply_in}
 use Rattle.client_session.specs.Finish.{gives_values, finish_says}
 use Rattle.client_session.proofs.StartLaws.{query_fits}
 use Rattle.client_session.proofs.FinishLaws.{read_for}
 use Rattle.bench.specs.declared.Bench as code
 use Rattle.bench.specs.declared.Round as code-round
-use Rattle.bench.specs.declared.PartStep.{PartStep}
 use Rattle.bench.specs.declared.Work.{Work}
-use Rattle.bench.specs.Run.{Bench, Round, Part, round, onward, send_room, reply_room, values_room, start_says, with_client, asking, part_of, finished}
+use Rattle.bench.specs.Run.{Round, round, onward, send_room, reply_room, values_room, start_says, with_client, asking, part_of, finished}
 use Rattle.bench.specs.Steps.{bench_of, round_of, RoundDoes, Comes, part_text, PartDoes}
 use Rattle.bench.proofs.RoundLaws.{lent_length, lent_text, lent_inside}
 use Rattle.bench.proofs.OnwardLaws.{held_then, does_held, onward-held}

@@ -1,21 +1,19 @@
 -- Laws of the run over the queries of a script: a part in the record, and what is left of the run at a position of the script and of the record.
 use mathlib.Core.Bool.{true, false}
 use mathlib.Core.Path.{◌≡◌, refl, sym, ap, subst, ◌∙◌}
-use mathlib.Core.List.{List, [], ◌∷◌, ◌++◌, append-nil}
-use Prim.Native.Nat.{ℕ, ◌+◌, ◌-◌, ◌≤◌, ◌<◌}
+use mathlib.Core.List.{List, [], ◌∷◌, append-nil}
+use Prim.Native.Nat.{ℕ, ◌+◌, ◌-◌, ◌≤◌}
 use native.Mathlib.Omega.{arith}
 use lib.Dec.{ltb}
 use lib.ListN.{length, take, drop, length-append}
 use lib.Seq.{sets, length-sets}
-use borrow.Author.Tests.{ltb-false, lt-ltb, le-ltb}
+use borrow.Author.Tests.{ltb-false}
 use Rattle.wire.specs.declared.Refusal.{Refusal}
-use Rattle.wire.specs.declared.Refusal.TheVariants.{SmallBuffer}
 use Rattle.wire.specs.Answer.{Answer, result, refused, number}
 use Rattle.wire.specs.Put.{Put}
 use Rattle.wire.specs.Text.{joined}
 use Rattle.wire.proofs.Cases.{by_test, from_no}
-use Rattle.wire.proofs.PutLaws.{put_then, put_whole_lem}
-use Rattle.group.specs.Group.{group_bytes}
+use Rattle.wire.proofs.PutLaws.{put_then}
 use Rattle.client_session.specs.Session.{client}
 use Rattle.bench.specs.Script.{Query, query_format}
 use Rattle.bench.specs.Steps.{query_step, query_at}

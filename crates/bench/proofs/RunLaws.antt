@@ -5,7 +5,7 @@ use mathlib.Core.List.{List, []}
 use Prim.Native.Nat.{ℕ}
 use lib.ListN.{length}
 use Rattle.wire.specs.declared.Refusal.{Refusal}
-use Rattle.wire.specs.Answer.{Answer, result, refused, number, if_result}
+use Rattle.wire.specs.Answer.{Answer, refused, number, if_result}
 use Rattle.client_session.specs.Call.{Progress, refusal_of, client_answer}
 use Rattle.bench.specs.Script.{Query, script}
 use Rattle.std.specs.Prelude.{Ok, Err}
