@@ -1,17 +1,16 @@
 -- Laws of the code's steps: each does what is said, from a position of the out buffer on.
 use mathlib.Core.Path.{◌≡◌, refl, sym}
 use mathlib.Core.List.{List, [], ◌∷◌, ◌++◌}
-use Prim.Native.Nat.{ℕ, ◌+◌, ◌-◌, ◌<◌, min}
+use Prim.Native.Nat.{ℕ, ◌+◌, ◌-◌, ◌<◌}
 use native.Mathlib.Nat.{sub-zero}
 use native.Mathlib.Numerals.{add-one}
 use native.Mathlib.Omega.{arith}
-use lib.ListN.{length, take, set, length-take}
+use lib.ListN.{length, take, set}
 use lib.Seq.{take-suc-set}
 use Rattle.std.specs.Prelude.{Ok, Err}
 use Rattle.wire.specs.Answer.{number}
 use Rattle.wire.specs.declared.Refusal.{Refusal}
 use Rattle.wire.specs.Put.{Put}
-use Rattle.wire.proofs.ListLaws.{take_cut}
 use Rattle.wire.proofs.PutLaws.{put_none, put_then, put_whole_lem}
 use Rattle.client_state.specs.Settings.{Settings}
 use Rattle.server_session.specs.declared.Phase.{Phase}
@@ -22,10 +21,6 @@ use Rattle.server_session.specs.Call.{ServerSaid, server_refusing, server_step, 
 use Rattle.server_session.specs.Bytes.{canonical, with_line, echoed, command_phase, empty_line, line_end, byte_taken, byte_says}
 use Rattle.server_session.specs.Steps.{Accepts, Takes, Refuses}
 use Rattle.server_session.proofs.ByteLaws.{open_of, line_empty, line_command, after_text, taken_cr, taken_lf, taken_plain, text_short}
-
--- as many bytes of a line count as it has
-pub line_cut : (n : ℕ) (line : List ℕ) → length line ≡ 128 → take (min n 128) line ≡ take n line
-line_cut n line k = let size : length (take n line) ≡ min n 128 = omega (arith, length-take n line) in rw (← size) (take_cut n line)
 
 -- a text is put, and a step goes on after it
 takes_after : {d : ServerSaid} {next : Session} {e out o₁ left : List ℕ} {at a end : ℕ} → Put out at e a o₁ → Takes d o₁ a end next left → Takes (after_text e d) out at end next left

@@ -142,7 +142,7 @@ impl ServerSession {
         self.turn.len.min(128)
     }
 
-    // What a call did.
+    // What `bytes` did.
     fn step(self, answer: Result<Phase, Refusal>, taken: usize, written: usize) -> ServerStep
         ensures { result ≡ record { answer = answer; taken = taken; written = written; session = self } }
     {
@@ -196,7 +196,8 @@ impl ServerSession {
     fn end_line(&mut self, out: &mut [u8], at: usize) -> usize
         ensures { Takes (line_end (session self.old) [] (canonical (session self.old).line)) out.old at result (session self.new) out.new }
     {
-        let len = make_canonical(&mut self.line, self.turn.len.min(128));
+        let size = self.command_size();
+        let len = make_canonical(&mut self.line, size);
         if len == 0 {
             return self.end_empty(out, at);
         }
@@ -269,9 +270,15 @@ impl ServerSession {
         ensures out_after { server_step result out.new ≡ server_lent (byte_says (length out.old) (session self) b) out.old }
         ensures refused_unchanged { ((q : Refusal) → result.answer ≡ Err q → result.session ≡ self) }
     {
-        match self.take_byte(b, out, 0) {
-            Ok(end) => self.step(Ok(self.turn.phase), 1, end),
-            Err(refusal) => self.refused(refusal),
+        let (answer, taken, written) = match self.take_byte(b, out, 0) {
+            Ok(end) => (Ok(self.turn.phase), 1, end),
+            Err(refusal) => (Err(refusal), 0, 0),
+        };
+        ServerStep {
+            answer,
+            taken,
+            written,
+            session: self,
         }
     }
 

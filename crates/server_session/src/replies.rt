@@ -63,7 +63,7 @@ impl ServerSession {
     fn command(&self) -> &[u8]
         ensures { result.now ≡ (session self.now).line }
     {
-        &self.line[..self.turn.len.min(128)]
+        &self.line[..self.command_size()]
     }
 
     // Whether an AT answer is refused.
@@ -121,14 +121,24 @@ impl ServerSession {
     {
         self.state = state;
         self.turn = line_awaited();
-        self.step(Ok(Phase::Reading), 0, written)
+        ServerStep {
+            answer: Ok(Phase::Reading),
+            taken: 0,
+            written,
+            session: self,
+        }
     }
 
     // Nothing is done.
-    pub(crate) fn refused(self, refusal: Refusal) -> ServerStep
+    fn refused(self, refusal: Refusal) -> ServerStep
         ensures { result ≡ record { answer = Err refusal; taken = 0; written = 0; session = self } }
     {
-        self.step(Err(refusal), 0, 0)
+        ServerStep {
+            answer: Err(refusal),
+            taken: 0,
+            written: 0,
+            session: self,
+        }
     }
 
     // Answers the AT command that is handed out, with the line ending that is then in force. ati and device are the identity strings for ATI and AT@1.

@@ -5,7 +5,7 @@ use mathlib.Core.Path.{refl}
 use Rattle.server_session.proofs.ServerSession.byte.Goals as goal
 
 pub returns-in-Ok-clause-out_after : goal.returns-in-Ok-clause-out_after
-returns-in-Ok-clause-out_after c = rw c.step.ensures (takes_lent (session c.args.self) c.args.b c.args.out.now _ c.in-Ok.ensures)
+returns-in-Ok-clause-out_after c = takes_lent (session c.args.self) c.args.b c.args.out.now _ c.in-Ok.ensures
 
 pub returns-in-Err-clause-out_after : goal.returns-in-Err-clause-out_after
-returns-in-Err-clause-out_after c = rw c.refused.ensures (refuses_lent (session c.args.self) c.args.b c.args.out.now refl c.in-Err.ensures)
+returns-in-Err-clause-out_after c = refuses_lent (session c.args.self) c.args.b c.args.out.now refl c.in-Err.ensures
