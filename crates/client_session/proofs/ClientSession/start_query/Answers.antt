@@ -1,5 +1,5 @@
 -- `client_session::ClientSession::start_query` meets its contract.
-use mathlib.Core.Path.{refl, sym, ap, ◌∙◌}
+use mathlib.Core.Path.{sym, ap, ◌∙◌}
 use lib.ListN.{length}
 use Rattle.query.specs.Query.{count_of}
 use Rattle.client_session.specs.Session.{Client, client}
