@@ -2,14 +2,16 @@
 use mathlib.Core.Path.{◌≡◌, refl, sym, ap, subst, ◌∙◌}
 use mathlib.Core.Bool.{Bool, true, false, cond}
 use mathlib.Core.List.{List}
-use Prim.Native.Nat.{ℕ, zero, suc, ◌-◌, ◌<◌, ◌≤◌}
+use Prim.Native.Nat.{ℕ, zero, suc, ◌+◌, ◌<◌, ◌≤◌}
+use native.Mathlib.Numerals.{add-one}
 use native.Mathlib.Omega.{arith}
 use lib.Dec.{ltb}
 use lib.ListN.{length}
 use borrow.Author.Tests.{lt-ltb, le-ltb}
 use Rattle.bench.specs.declared.Round as code-round
+use Rattle.bench.specs.declared.Work.{Work}
 use Rattle.bench.specs.Run.{Round, round, later, onward}
-use Rattle.bench.specs.Steps.{round_of, Room, RoundDoes}
+use Rattle.bench.specs.Steps.{round_of, RoundDoes}
 
 -- Two rounds with the same commands to come.
 pub record Held (t u : Round) : Type 0 where
@@ -24,12 +26,11 @@ pub held_same : (t : Round) → Held t t
 held_same t = record { answer = refl; text = refl; bench = refl }
 
 -- what a round does is what the code holds
-pub does_held : {t : Round} {r : code-round.Round} {out reply store lengths : List ℕ} → RoundDoes t r out reply store lengths → Held t (round_of r out store lengths)
+pub does_held : {t : Round} {r : code-round.Round} {w : Work} → RoundDoes t r w → Held t (round_of r w)
 does_held d = record { answer = sym d.answer; text = sym d.text; bench = sym d.bench }
 
-pub held_does : {t : Round} {r : code-round.Round} {out reply store lengths : List ℕ} → Held t (round_of r out store lengths) → r.written ≤ length out → Room out reply →
-    RoundDoes t r out reply store lengths
-held_does h inside room = record { answer = sym h.answer; text = sym h.text; bench = sym h.bench; inside = inside; room = room }
+pub held_does : {t : Round} {r : code-round.Round} {w : Work} → Held t (round_of r w) → r.written ≤ length w.out → RoundDoes t r w
+held_does h inside = record { answer = sym h.answer; text = sym h.text; bench = sym h.bench; inside = inside }
 
 sending_held : (b : Bool) {t u x y : Round} → Held t u → Held x y → Held (cond b x t) (cond b y u)
 sending_held true p q = q
@@ -53,11 +54,8 @@ onward_stops (suc n) t list e = rw (le-ltb 0 (length t.text) e) (held_same t)
 one_goes : (n : ℕ) (t : Round) (list : List ℕ) → 0 < length t.text → Held (onward (suc n) t list) (onward n (round t.bench t.text list) list)
 one_goes n t list e = rw (lt-ltb 0 (length t.text) e) (record { answer = refl; text = refl; bench = refl })
 
-pub onward_goes : (n : ℕ) (t : Round) (list : List ℕ) → 0 < n → 0 < length t.text → Held (onward n t list) (onward (n - 1) (round t.bench t.text list) list)
-onward_goes zero t list h e = absurd (omega arith)
-onward_goes (suc n) t list h e =
-    let less : n ≡ suc n - 1 = omega arith in
-    subst (λ m. Held (onward (suc n) t list) (onward m (round t.bench t.text list) list)) less (one_goes n t list e)
+pub onward_goes : (n m : ℕ) (t : Round) (list : List ℕ) → n ≡ m + 1 → 0 < length t.text → Held (onward n t list) (onward m (round t.bench t.text list) list)
+onward_goes n m t list h e = rw (h, add-one) (one_goes m t list e)
 
 pub onward-ended : (n : ℕ) (t : Round) (list : List ℕ) → n ≤ 0 → Held (onward n t list) t
 onward-ended zero t list h = held_same t

@@ -5,10 +5,13 @@ use mathlib.Core.List.{List, []}
 use Prim.Native.Nat.{ℕ}
 use lib.ListN.{length}
 use Rattle.wire.specs.declared.Refusal.{Refusal}
-use Rattle.wire.specs.Answer.{Answer, result, refused, number, if_result}
-use Rattle.client_session.specs.Call.{Progress, client_answer}
+use Rattle.wire.specs.Answer.{Answer, refused, number, if_result}
+use Rattle.client_session.specs.Call.{Progress, refusal_of, client_answer}
 use Rattle.bench.specs.Script.{Query, script}
-use Rattle.bench.specs.declared.RunAnswer.TheVariants.{Refused}
+use Rattle.std.specs.Prelude.{Ok, Err}
+use Rattle.bench.specs.declared.Work.{Work}
+use Rattle.client_session.specs.declared.ClientAnswer.{ClientAnswer}
+use Rattle.client_session.specs.declared.ClientError.{ClientError}
 use Rattle.bench.specs.declared.BenchRun.{BenchRun}
 use Rattle.bench.specs.declared.Round as code-round
 use Rattle.bench.specs.Run.{Round, Run, ended, after, asked, initialised, run_says, recorded, run_lent}
@@ -23,20 +26,20 @@ module _ (repeat : Bool) (lengths s buffer : List ℕ) where
   says = run_says repeat lengths (length buffer) s
 
   -- the script gets a number
-  pub script_refused : (q : Refusal) (r : BenchRun) → script s ≡ refused (number q) → r ≡ record { answer = Refused q; written = 0 } → recorded r buffer ≡ run_lent says buffer
+  pub script_refused : (q : Refusal) (r : BenchRun) → script s ≡ refused (number q) → r ≡ record { answer = Err q; written = 0 } → recorded r buffer ≡ run_lent says buffer
   unfolding run_says
   script_refused q r e k = rw (k, e)
 
   -- it gets none, and the initialisation comes to a turn
-  module _ (is : IsScript s) (t : code-round.Round) (reply store : List ℕ) (does : Comes (initialised repeat lengths) t reply store lengths) where
+  module _ (is : IsScript s) (t : code-round.Round) (w : Work) (does : Comes (initialised repeat lengths) t w) where
     begins : says ≡ begun (length buffer) (initialised repeat lengths) (client_answer t.answer) (queries_of s)
     unfolding run_says
     begins = rw (is.1, does.answer)
 
-    pub begin_refused : (q : Refusal) (r : BenchRun) → client_answer t.answer ≡ refused (number q) → r ≡ record { answer = Refused q; written = 0 } →
+    pub begin_refused : (error : ClientError) (q : Refusal) (r : BenchRun) → t.answer ≡ Err error → q ≡ refusal_of error → r ≡ record { answer = Err q; written = 0 } →
         recorded r buffer ≡ run_lent says buffer
-    begin_refused q r e k = rw (k, begins, e)
+    begin_refused error q r e f k = rw (k, f, begins, e)
 
-    pub begin_asks : (r : BenchRun) (left : List ℕ) {p : Progress} → client_answer t.answer ≡ result p →
-        recorded r left ≡ run_lent (asked (length buffer) (bench_of t.bench store lengths) (queries_of s)) buffer → recorded r left ≡ run_lent says buffer
+    pub begin_asks : (r : BenchRun) (left : List ℕ) {a : ClientAnswer} → t.answer ≡ Ok a →
+        recorded r left ≡ run_lent (asked (length buffer) (bench_of t.bench w.store) (queries_of s)) buffer → recorded r left ≡ run_lent says buffer
     begin_asks r left none e = e ∙ rw (begins, none, does.bench)

@@ -6,10 +6,10 @@ mod exchange;
 mod rounds;
 mod script;
 
-ghost use Rattle.std.specs.Prelude.{◌≡◌, ◌++◌, ◌-◌, ◌≤◌, length, take, Err};
+ghost use Rattle.std.specs.Prelude.{◌≡◌, ◌++◌, ◌-◌, ◌≤◌, length, Err};
 ghost use Rattle.wire.specs.Put.{Put};
 ghost use Rattle.group.specs.Group.{group_bytes};
-ghost use Rattle.bench.specs.Run.{reply_room, asked, run_says, recorded, run_lent};
+ghost use Rattle.bench.specs.Run.{fresh_store, asked, run_says, recorded, run_lent};
 ghost use Rattle.bench.specs.Steps.{bench_of, part_text, added, lent_from, IsScript, queries_of};
 
 use client_session::{ClientAnswer, ClientError, ClientSession};
@@ -41,12 +41,35 @@ struct QueryPlace {
     next: ScriptCursor,
 }
 
-// Both sessions, and how many piece lengths are used up.
+// Both sessions, and the piece lengths that are left.
 #[derive(Clone, Copy)]
-struct Bench {
+struct Bench<'a> {
     client: ClientSession,
     server: ServerSession,
-    used: usize,
+    lengths: &'a [u8],
+}
+
+// The buffers of a run, large enough for all that a script can ask for.
+#[derive(Drop)]
+struct Work {
+    // What the client sends.
+    out: [u8; 80],
+    // What the server sends, and then the values of the query.
+    reply: [u8; 33026],
+    // The client's reply store.
+    store: [u8; 4096],
+}
+
+impl Work {
+    fn new() -> Self
+        ensures { result.store ≡ fresh_store }
+    {
+        Self {
+            out: [0; 80],
+            reply: [0; 33026],
+            store: [0; 4096],
+        }
+    }
 }
 
 // What the server did for a command.
@@ -57,35 +80,23 @@ struct ExchangeStep {
     session: ServerSession,
 }
 
-// What the client was told.
-#[derive(Clone, Copy)]
-struct Delivery {
-    // What the last piece that was given says.
-    answer: Result<ClientAnswer, ClientError>,
-    // How many bytes of out the client sends next.
-    written: usize,
-    session: ClientSession,
-    // How many piece lengths are used up.
-    used: usize,
-}
-
 // Where the run stands after a command.
 #[derive(Clone, Copy)]
-struct Round {
+struct Round<'a> {
     // What the reply said to the client.
     answer: Result<ClientAnswer, ClientError>,
     // How many bytes of out the client sends next.
     written: usize,
-    bench: Bench,
+    bench: Bench<'a>,
 }
 
 #[derive(Clone, Copy)]
-struct PartStep {
+struct PartStep<'a> {
     // How many values a query gave, or the number that ends the run.
     answer: Result<usize, Refusal>,
-    // How many bytes of the lent buffer the values take.
+    // How many bytes the values take.
     written: usize,
-    bench: Bench,
+    bench: Bench<'a>,
 }
 
 fn refused(refusal: Refusal, written: usize) -> BenchRun
@@ -105,25 +116,20 @@ fn put_part(buffer: &mut [u8], at: usize, count: usize, values: &[u8]) -> usize
     wire::put(buffer, start, values)
 }
 
-// Writes a query's part, which has size bytes of values, into the record from position at on, if there is room for it.
-fn add_part(
-    answer: Result<usize, Refusal>,
-    size: usize,
-    values: &[u8],
-    buffer: &mut [u8],
-    at: usize,
-) -> BenchRun
-    requires { (size ≤ length values.now) × (at ≤ length buffer.old) }
+// Writes a query's part into the record from position at on, if there is room for it.
+#[tactic(auto, using(group::proofs::GroupLaws::group_bytes_ten))]
+fn add_part(answer: Result<usize, Refusal>, values: &[u8], buffer: &mut [u8], at: usize) -> BenchRun
+    requires { at ≤ length buffer.old }
     ensures { recorded result buffer.new ≡
-        lent_from at (added (length buffer.old - at) (part_text answer (take size values.now))) buffer.old }
+        lent_from at (added (length buffer.old - at) (part_text answer values.now)) buffer.old }
 {
     match answer {
         Err(refusal) => refused(refusal, at),
         Ok(count) => {
-            if buffer.len() - at < group::group_size(count) + size {
+            if buffer.len() - at < group::group_size(count) + values.len() {
                 return refused(Refusal::SmallBuffer, at);
             }
-            let end = put_part(buffer, at, count, &values[..size]);
+            let end = put_part(buffer, at, count, values);
             BenchRun {
                 answer: Ok(()),
                 written: end,
@@ -133,17 +139,10 @@ fn add_part(
 }
 
 // Asks the queries of a checked script, and writes their parts into the record one after the other.
-fn ask_all(
-    script: &[u8],
-    lengths: &[u8],
-    mut bench: Bench,
-    buffer: &mut [u8],
-    work: &mut [u8],
-    store: &mut [u8],
-) -> BenchRun
-    requires { IsScript script.now × (length work.old ≡ reply_room) }
+fn ask_all(script: &[u8], mut bench: Bench, buffer: &mut [u8], work: &mut Work) -> BenchRun
+    requires { IsScript script.now }
     ensures { recorded result buffer.new ≡
-        run_lent (asked (length buffer.old) (bench_of bench store.old lengths.now) (queries_of script.now)) buffer.old }
+        run_lent (asked (length buffer.old) (bench_of bench.entry work.old.store) (queries_of script.now)) buffer.old }
 {
     let mut cursor = ScriptCursor::new();
     let mut at: usize = 0;
@@ -156,11 +155,10 @@ fn ask_all(
             &script[query.pids..pids_end],
             query.count,
             &script[query.list..list_end],
-            lengths,
             work,
-            store,
         );
-        let added = add_part(part.answer, part.written, work, buffer, at);
+        let values = &work.reply[..part.written];
+        let added = add_part(part.answer, values, buffer, at);
         if added.answer.is_err() {
             return added;
         }
@@ -180,13 +178,12 @@ fn run_checked(script: &[u8], lengths: &[u8], repeat: bool, buffer: &mut [u8]) -
     ensures { recorded result buffer.new ≡
         run_lent (run_says repeat lengths.now (length buffer.old) script.now) buffer.old }
 {
-    let mut work = [0u8; 33026];
-    let mut store = [0u8; 4096];
-    let begun = rounds::initialise(repeat, lengths, &mut work, &mut store);
-    if let Err(refusal) = ask::part_answer(begun.answer) {
-        return refused(refusal, 0);
+    let mut work = Work::new();
+    let begun = rounds::initialise(repeat, lengths, &mut work);
+    if let Err(error) = begun.answer {
+        return refused(Refusal::from(error), 0);
     }
-    ask_all(script, lengths, begun.bench, buffer, &mut work, &mut store)
+    ask_all(script, begun.bench, buffer, &mut work)
 }
 
 // Runs a script, with the lengths of the pieces that the server's bytes are handed to the client in, and with repeat on or off. The parts stand at the front of

@@ -1,28 +1,19 @@
 -- `bench::rounds::reset` meets its contract.
-use mathlib.Core.Path.{sym}
 use mathlib.Core.List.{[]}
-use lib.Seq.{length-take-le}
-use Rattle.server_session.specs.Session.{fresh_session}
+use borrow.Author.Rules.{rules}
+use Rattle.server_session.specs.Session.{session}
 use Rattle.bench.proofs.RoundLaws.{reply_inside}
 use Rattle.bench.proofs.InitLaws.{init_inside, reset_does}
 use Rattle.bench.proofs.rounds.reset.Goals as goal
 
-pub slice_bounds-fresh_exchange-end : goal.slice_bounds-fresh_exchange-end
-slice_bounds-fresh_exchange-end c = init_inside c.args.repeat c.args.out.now _ c.send_reset-start.result c.requires.0.0 c.send_reset-start.ensures
+pub shared_ref_as_front-command : goal.shared_ref_as_front-command
+shared_ref_as_front-command c = init_inside c.args.repeat _ _ c.new.result c.init-start.result (search rules) c.new.ensures c.init-start.ensures.out_after
 
-pub slice_bounds-fresh_exchange-end-2 : goal.slice_bounds-fresh_exchange-end-2
-slice_bounds-fresh_exchange-end-2 c =
-    sym (length-take-le _ _ (init_inside c.args.repeat c.args.out.now _ c.send_reset-start.result c.requires.0.0 c.send_reset-start.ensures))
-
-pub slice_bounds-one_piece-end : goal.slice_bounds-one_piece-end
-slice_bounds-one_piece-end c = reply_inside fresh_session _ [] c.args.reply.now _ c.fresh_exchange-heard.result c.fresh_exchange-heard.ensures
-
-pub slice_bounds-one_piece-end-2 : goal.slice_bounds-one_piece-end-2
-slice_bounds-one_piece-end-2 c =
-    sym (length-take-le _ _ (reply_inside fresh_session _ [] c.args.reply.now _ c.fresh_exchange-heard.result c.fresh_exchange-heard.ensures))
+pub shared_ref_as_front-sent : goal.shared_ref_as_front-sent
+shared_ref_as_front-sent c = reply_inside (session c.new-2.result) _ [] _ _ c.exchange-heard.result c.exchange-heard.ensures (search rules)
 
 pub returns : goal.returns
 returns c =
     let a = c.args in
-    reset_does a.repeat a.out.now _ c.send_reset-start.result c.requires.0.0 c.send_reset-start.ensures a.reply.now _ a.store.now _ _
-    c.fresh_exchange-heard.result c.one_piece.result c.requires.0.1 c.requires.1 c.fresh_exchange-heard.ensures c.one_piece.ensures
+    reset_does a.repeat _ _ c.new.result c.init-start.result (search rules) c.new.ensures c.init-start.ensures.out_after _ _ a.work.now.store _ _ c.new-2.result
+    c.exchange-heard.result c.piece-step.result (search rules) c.requires c.new-2.ensures c.exchange-heard.ensures c.piece-step.ensures.out_after c.piece-step.ensures.store_after a.lengths
