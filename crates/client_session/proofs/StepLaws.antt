@@ -30,6 +30,10 @@ does_lent {d} {out} {s} p h =
 pub does_as : {d e : ClientSaid} {out : List ℕ} {s : ClientServed} → d ≡ e → Does e out s → Does d out s
 does_as {out} {s} q p = subst (λ (d : ClientSaid). Does d out s) (sym q) p
 
+-- both
+pub lent_as : {d e : ClientSaid} {out : List ℕ} {s : ClientServed} → d ≡ e → Does e out s → length d.text ≤ length out → s ≡ client_lent d out
+lent_as q p h = does_lent (does_as q p) h
+
 -- a call that sends a text, and one that sends nothing
 pub does_sends : {c : Client} {a : Result ClientAnswer ClientError} {r : ClientStep} {n : ℕ} {x : Answer Progress} {t out left : List ℕ} → Stepped c a n r → client_answer a ≡ x → Put out 0 t n left →
     Does (record { answer = x; next = c; text = t }) out (client_step r left)

@@ -7,7 +7,7 @@ mod start;
 
 ghost use Rattle.std.specs.Prelude.{◌≡◌, ◌&&◌, [], Ok, Err};
 ghost use Rattle.client_session.specs.Session.{client, fresh_client, is_idle, is_complete, with_under, with_last_query};
-ghost use Rattle.client_session.specs.Call.{is_query, in_query, failed_client, refusal_of};
+ghost use Rattle.client_session.specs.Call.{in_query, failed_client, refusal_of};
 ghost use Rattle.client_session.specs.Steps.{Stepped, unchanged};
 
 use client_command::FramingEffect;
@@ -110,40 +110,28 @@ pub enum Failure {
     Write,
 }
 
-fn is_idle(under: Under) -> bool
-    ensures { result ≡ is_idle under }
-{
-    matches!(under, Under::Idle)
-}
-
-fn is_complete(under: Under) -> bool
-    ensures { result ≡ is_complete under }
-{
-    matches!(under, Under::Complete)
-}
-
-fn is_query(command: Command) -> bool
-    ensures { result ≡ is_query command }
-{
-    matches!(command, Command::Query | Command::Repeat)
-}
-
-// Whether a query's reply is awaited, or complete.
-fn in_query(under: Under) -> bool
-    ensures { result ≡ in_query under }
-{
-    match under {
-        Under::Idle => false,
-        Under::Awaiting(command) => is_query(command),
-        Under::Complete => true,
+impl Under {
+    fn is_idle(self) -> bool
+        ensures { result ≡ is_idle self }
+    {
+        matches!(self, Under::Idle)
     }
-}
 
-// Whether a query of `query_pids` is under way.
-fn in_several(under: Under, several: bool) -> bool
-    ensures { result ≡ (in_query under && several) }
-{
-    in_query(under) && several
+    fn is_complete(self) -> bool
+        ensures { result ≡ is_complete self }
+    {
+        matches!(self, Under::Complete)
+    }
+
+    // Whether a query's reply is awaited, or complete.
+    fn in_query(self) -> bool
+        ensures { result ≡ in_query self }
+    {
+        matches!(
+            self,
+            Under::Awaiting(Command::Query | Command::Repeat) | Under::Complete
+        )
+    }
 }
 
 impl ClientSession {
@@ -214,11 +202,18 @@ impl ClientSession {
         self.moved(Under::Idle, 0)
     }
 
+    // Whether a query of `query_pids` is under way.
+    fn in_several(&self) -> bool
+        ensures { result ≡ (in_query self.now.pending.under && self.now.several) }
+    {
+        self.pending.under.in_query() && self.several
+    }
+
     // The session after 7, 8 or 9.
     fn failed(mut self) -> ClientSession
         ensures { client result ≡ failed_client (client self) }
     {
-        if in_several(self.pending.under, self.several) {
+        if self.in_several() {
             let multi_pid = self.server.multi_pid.decide(FeatureSupport::No);
             self.server = self.server.with_multi_pid(multi_pid);
         }

@@ -11,85 +11,75 @@ ghost use Rattle.client_session.specs.Call.{sends, client_refusing, client_lent,
 ghost use Rattle.client_session.specs.Start.{init_says, command_says, send_query, request, query_says};
 ghost use Rattle.client_session.specs.Steps.{Does, Early};
 
-use crate::{ClientSession, ClientStep, Command, Under};
+use crate::{ClientSession, ClientStep, Command};
 use query_text::QueryText;
-use server_state::FeatureSupport;
 use wire::Refusal;
 
-// Whether the initialisation is refused.
-#[tactic(auto, unfolding(crate::specs::Start::init_says, wire::specs::Answer::unless))]
-fn init_verdict(under: Under, room: usize) -> Result<(), Refusal>
-    ensures says { (c : Client) → c.under ≡ under → init_says room c ≡ settled result (client_refusing c) (sends c Command.Reset (ascii "ATZ\r")) }
-    ensures early { Early result }
-{
-    if !crate::is_idle(under) {
-        return Err(Refusal::OutOfTurn);
-    }
-    if room < 80 {
-        return Err(Refusal::SmallBuffer);
-    }
-    Ok(())
-}
-
-// Whether a raw command is refused.
-#[tactic(auto, unfolding(crate::specs::Start::command_says, wire::specs::Answer::unless))]
-fn command_verdict(under: Under, command: &[u8], room: usize) -> Result<(), Refusal>
-    ensures says { (c : Client) → c.under ≡ under → command_says room c command.now ≡
-        settled result (client_refusing c) (sends (with_last_query c []) (Command.Raw (framing_effect command.now)) (with_cr command.now)) }
-    ensures early { Early result }
-{
-    if !crate::is_idle(under) {
-        return Err(Refusal::OutOfTurn);
-    }
-    if 64 < command.len() {
-        return Err(Refusal::TooLong);
-    }
-    if wire::has_high(command) {
-        return Err(Refusal::NotAscii);
-    }
-    if room < 80 {
-        return Err(Refusal::SmallBuffer);
-    }
-    Ok(())
-}
-
-// Whether a query is refused.
-#[tactic(auto, unfolding(crate::specs::Start::query_says, wire::specs::Answer::unless))]
-fn query_verdict(under: Under, pids: &[u8], room: usize) -> Result<(), Refusal>
-    ensures says { (c : Client) → (count : ℕ) → (several : Bool) → c.under ≡
-        under → query_says room c pids.now count several ≡ settled result (client_refusing c) (send_query c (request pids.now count several)) }
-    ensures early { Early result }
-    ensures at_most_six { result ≡ Ok tt → length pids.now ≤ 6 }
-{
-    if !crate::is_idle(under) {
-        return Err(Refusal::OutOfTurn);
-    }
-    if pids.is_empty() {
-        return Err(Refusal::PidCount);
-    }
-    if 6 < pids.len() {
-        return Err(Refusal::PidCount);
-    }
-    if room < 80 {
-        return Err(Refusal::SmallBuffer);
-    }
-    Ok(())
-}
-
-// Whether a query equals the last one, which a bare CR may repeat.
-fn repeats(repeat: FeatureSupport, last: QueryText, query: QueryText) -> bool
-    ensures { result ≡ (may_try repeat && same (text last) (text query)) }
-{
-    repeat.may_try() && last.is(query)
-}
-
 impl ClientSession {
+    // Whether the initialisation is refused.
+    #[tactic(auto, unfolding(crate::specs::Start::init_says, wire::specs::Answer::unless))]
+    fn init_verdict(&self, room: usize) -> Result<(), Refusal>
+        ensures says { init_says room (client self.now) ≡
+            settled result (client_refusing (client self.now)) (sends (client self.now) Command.Reset (ascii "ATZ\r")) }
+        ensures early { Early result }
+    {
+        if !self.pending.under.is_idle() {
+            return Err(Refusal::OutOfTurn);
+        }
+        if room < 80 {
+            return Err(Refusal::SmallBuffer);
+        }
+        Ok(())
+    }
+
+    // Whether a raw command is refused.
+    #[tactic(auto, unfolding(crate::specs::Start::command_says, wire::specs::Answer::unless))]
+    fn command_verdict(&self, command: &[u8], room: usize) -> Result<(), Refusal>
+        ensures says { command_says room (client self.now) command.now ≡ settled result (client_refusing (client self.now))
+            (sends (with_last_query (client self.now) []) (Command.Raw (framing_effect command.now)) (with_cr command.now)) }
+        ensures early { Early result }
+    {
+        if !self.pending.under.is_idle() {
+            return Err(Refusal::OutOfTurn);
+        }
+        if 64 < command.len() {
+            return Err(Refusal::TooLong);
+        }
+        if wire::has_high(command) {
+            return Err(Refusal::NotAscii);
+        }
+        if room < 80 {
+            return Err(Refusal::SmallBuffer);
+        }
+        Ok(())
+    }
+
+    // Whether a query is refused.
+    #[tactic(auto, unfolding(crate::specs::Start::query_says, wire::specs::Answer::unless))]
+    fn query_verdict(&self, pids: &[u8], room: usize) -> Result<(), Refusal>
+        ensures says { (count : ℕ) → (several : Bool) → query_says room (client self.now) pids.now count several ≡
+            settled result (client_refusing (client self.now)) (send_query (client self.now) (request pids.now count several)) }
+        ensures early { Early result }
+        ensures at_most_six { result ≡ Ok tt → length pids.now ≤ 6 }
+    {
+        if !self.pending.under.is_idle() {
+            return Err(Refusal::OutOfTurn);
+        }
+        if pids.is_empty() || 6 < pids.len() {
+            return Err(Refusal::PidCount);
+        }
+        if room < 80 {
+            return Err(Refusal::SmallBuffer);
+        }
+        Ok(())
+    }
+
     // Starts the initialisation: ATZ goes out. It is no raw command, and forgets nothing.
     pub fn init(self, out: &mut [u8]) -> ClientStep
         ensures out_after { client_step result out.new ≡ client_lent (init_says (length out.old) (client self)) out.old }
         ensures refused_or_failed { RefusedOrFailed result self }
     {
-        if let Err(refusal) = init_verdict(self.pending.under, out.len()) {
+        if let Err(refusal) = self.init_verdict(out.len()) {
             return self.refused(refusal);
         }
         let written = wire::put(out, 0, b"ATZ\r");
@@ -101,7 +91,7 @@ impl ClientSession {
         ensures out_after { client_step result out.new ≡ client_lent (command_says (length out.old) (client self) command.now) out.old }
         ensures refused_or_failed { RefusedOrFailed result self }
     {
-        if let Err(refusal) = command_verdict(self.pending.under, command, out.len()) {
+        if let Err(refusal) = self.command_verdict(command, out.len()) {
             return self.refused(refusal);
         }
         self.last.len = 0;
@@ -116,18 +106,24 @@ impl ClientSession {
         ensures { client result ≡ with_query (client self) (request pids.now (count_of count) several) }
     {
         self.query = QueryText::of(pids, count);
-        let mut own = [0u8; 6];
-        self.pids_len = wire::put(&mut own, 0, pids);
-        self.pids = own;
+        self.pids = [0; 6];
+        self.pids_len = wire::put(&mut self.pids, 0, pids);
         self.several = several;
         self
+    }
+
+    // Whether the query equals the last one, which a bare CR may repeat.
+    fn repeats(&self) -> bool
+        ensures { result ≡ (may_try self.now.server.repeat && same (text self.now.last) (text self.now.query)) }
+    {
+        self.server.repeat.may_try() && self.last.is(self.query)
     }
 
     // The query goes out, in full or as a bare CR.
     fn ask(self, out: &mut [u8]) -> ClientStep
         ensures { Does (send_query (client self) (client self).query) out.old (client_step result out.new) }
     {
-        if repeats(self.server.repeat, self.last, self.query) {
+        if self.repeats() {
             let written = wire::put_byte(out, 0, b'\r');
             return self.sends(Command::Repeat, written);
         }
@@ -136,12 +132,18 @@ impl ClientSession {
     }
 
     // Starts a query.
-    fn start_query(self, pids: &[u8], count: Option<u8>, several: bool, out: &mut [u8]) -> ClientStep
+    fn start_query(
+        self,
+        pids: &[u8],
+        count: Option<u8>,
+        several: bool,
+        out: &mut [u8],
+    ) -> ClientStep
         ensures out_after { client_step result out.new ≡
             client_lent (query_says (length out.old) (client self) pids.now (count_of count) several) out.old }
         ensures refused_or_failed { RefusedOrFailed result self }
     {
-        if let Err(refusal) = query_verdict(self.pending.under, pids, out.len()) {
+        if let Err(refusal) = self.query_verdict(pids, out.len()) {
             return self.refused(refusal);
         }
         self.with_query(pids, count, several).ask(out)

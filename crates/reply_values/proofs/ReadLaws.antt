@@ -4,7 +4,7 @@ use mathlib.Core.Bool.{Bool}
 use mathlib.Core.List.{List, [], ◌∷◌, map}
 use Prim.Native.Nat.{ℕ, ◌+◌, ◌*◌, ◌≤◌, ◌<◌}
 use native.Mathlib.Omega.{arith}
-use lib.ListN.{length, take, set, length-set}
+use lib.ListN.{length}
 use lib.Seq.{sets}
 use borrow.Author.Tests.{lt-ltb, le-ltb}
 use Rattle.wire.specs.Answer.{result, refused, unless}
@@ -22,11 +22,10 @@ use Rattle.server_state.specs.declared.ServerState.{ServerState}
 use Rattle.reply_values.specs.Learn.{lengths_after, learn_counts, multi_after}
 use Rattle.reply_values.specs.Read.{Reading, reading, ReadServed, read_reply}
 use Rattle.reply_values.specs.declared.Tally.{Tally}
-use Rattle.reply_values.specs.Steps.{values_in, no_values, PutValues, Storing}
-use Rattle.reply_values.proofs.InLaws.{values-known}
+use Rattle.reply_values.specs.Steps.{no_values, PutValues, Stored, RoomIn, with_values}
 use Rattle.reply_values.proofs.OrderLaws.{order_size, order_fit}
 use Rattle.reply_values.proofs.SizeLaws.{reply_size_lem}
-use Rattle.reply_values.proofs.TallyLaws.{tallied_none, stand_all, tallied_all, starts_none}
+use Rattle.reply_values.proofs.TallyLaws.{bytes_many, tallied_all}
 use Rattle.reply_values.proofs.WalkLaws.{KnownEcus, values_fit}
 
 -- The whole
@@ -43,35 +42,23 @@ reply-known framing reply = known (text_lines reply) where
 pub reading_without_nulls : (s : ServerState) (pids : List ℕ) (several : Bool) (reply : List ℕ) → reading s pids several (without_nulls reply) ≡ reading s pids several reply
 reading_without_nulls s pids several reply = rw (reply_without_nulls s.framing reply)
 
--- the values of a text of at most 4,096 bytes in a store with three bytes for each of them and three more
-module _ (framing : Bool) (text lengths : List ℕ) where
-  abbrev text_values : List Value
-  text_values = values_of lengths (lines_of_reply framing text)
+-- there is room for the values of a text of at most 4,096 bytes in a store with three bytes for each of them and three more
+pub text_room : (framing : Bool) (text lengths : List ℕ) → length text ≤ 4096 → (n : ℕ) → 3 * length text + 3 ≤ n →
+    RoomIn (record { values = []; size = n }) (values_of lengths (lines_of_reply framing text))
+text_room framing text lengths short n room = record {
+  room = omega (arith, reply_size_lem lengths framing text short);
+  ecus = values_fit lengths (lines_of_reply framing text) (reply-known framing text);
+}
 
-  text_fit : ValuesFit text_values
-  text_fit = values_fit lengths (lines_of_reply framing text) (reply-known framing text)
+-- they are what is found there
+pub stored_found : {vs us : List Value} {r s : Stored} {n : ℕ} → s ≡ record { values = []; size = n } → r ≡ with_values s us → vs ≡ r.values → vs ≡ us
+stored_found {us = us} s r v = v ∙ ap Stored.values (r ∙ ap (λ s. with_values s us) s)
 
-  module _ (short : length text ≤ 4096) (store : List ℕ) (room : 3 * length text + 3 ≤ length store) where
-    fits : length (values_bytes text_values) ≤ length store
-    fits = omega (arith, reply_size_lem lengths framing text short)
-
-    -- there is room for them
-    pub text-storing : (starts : List ℕ) → length store ≤ 65535 → length store < 5 * length starts → Storing text_values store (set starts 0 0) no_values
-    text-storing starts small places = record {
-      ready = record { tallied = tallied_none store; room = omega (arith, fits) };
-      ecus = text_fit;
-      begin = starts_none store starts (omega arith);
-      small = small;
-      places = omega (arith, length-set starts 0 0);
-    }
-
-    -- they stand there
-    module _ {left : List ℕ} {r : Tally} (q : PutValues text_values store no_values left r) where
-      stored_size : r.at ≡ length (values_bytes text_values)
-      stored_size = let e = put_whole_lem q.put (omega (arith, fits)) in omega arith
-
-      stored-values : values_in (take r.at left) ≡ text_values
-      stored-values = stand_all text_fit fits q
+-- a value has five bytes at least
+pub text_few : (framing : Bool) (text lengths : List ℕ) → length text ≤ 4096 → (n : ℕ) → 3 * length text + 3 ≤ n →
+    5 * length (values_of lengths (lines_of_reply framing text)) ≤ n
+text_few framing text lengths short n room =
+    omega (arith, bytes_many (values_of lengths (lines_of_reply framing text)), (text_room framing text lengths short n room).room)
 
 -- what a number comes to, and what is read where none applies
 abbrev unread_for : ServerState → ℕ → List ℕ → ReadServed
@@ -114,30 +101,21 @@ module _ (s : ServerState) (pids : List ℕ) (several : Bool) where
     };
   }
 
-  -- the answer to a query, by what the store holds
+  -- the answer to a query, by the values that were found
   module _ (text : List ℕ) (short : length text ≤ 4096) {after : List ℕ} (learned : after ≡ lengths_after several pids s.pid_lengths (lines_of_reply s.framing text))
-      {store left : List ℕ} (room : 3 * length text + 3 ≤ length store) {r : Tally} (q : PutValues (values_of after (lines_of_reply s.framing text)) store no_values left r) where
-    abbrev found : List Value
-    found = values_in (take r.at left)
+      {vs : List Value} (found : vs ≡ values_of after (lines_of_reply s.framing text)) where
+    read_found : reading s pids several text ≡ reading_of after vs
+    read_found = ap (λ ls. reading_of ls (values_of ls (lines_of_reply s.framing text))) (sym learned) ∙ ap (reading_of after) (sym found)
 
-    same : found ≡ values_of after (lines_of_reply s.framing text)
-    same = stored-values s.framing text after short store room q
+    text_size : length (values_bytes (reading s pids several text).values) ≡ length (values_bytes vs)
+    text_size = ap (λ (r : Reading). length (values_bytes r.values)) read_found ∙ order_size vs
 
-    found_size : r.at ≡ length (values_bytes (answer_order found))
-    found_size = stored_size s.framing text after short store room q ∙ ap (λ vs. length (values_bytes vs)) (sym same) ∙ sym (order_size found)
-
-    read_found : reading s pids several text ≡ reading_of after found
-    read_found = ap (λ ls. reading_of ls (values_of ls (lines_of_reply s.framing text))) (sym learned) ∙ ap (reading_of after) (sym same)
-
-    text_size : length (values_bytes (reading s pids several text).values) ≡ r.at
-    text_size = ap (λ (r : Reading). length (values_bytes r.values)) read_found ∙ sym found_size
-
-    pub read_small : {out : List ℕ} → length out < r.at → unread_for s 6 out ≡ read_reply s pids several text out
+    pub read_small : {out : List ℕ} → length out < length (values_bytes vs) → unread_for s 6 out ≡ read_reply s pids several text out
     read_small {out} h = sym (read_full text out short (omega (arith, text_size)))
 
-    pub read_whole : {out o₁ counts : List ℕ} {tally : Tally} {multi : FeatureSupport} → r.at ≤ length out →
-        counts ≡ learn_counts s.framing 0 s.ecu_counts found → multi ≡ multi_after several pids found s.multi_pid →
-        PutValues (answer_order found) out no_values o₁ tally →
+    pub read_whole : {out o₁ counts : List ℕ} {tally : Tally} {multi : FeatureSupport} → length (values_bytes vs) ≤ length out →
+        counts ≡ learn_counts s.framing 0 s.ecu_counts vs → multi ≡ multi_after several pids vs s.multi_pid →
+        PutValues (answer_order vs) out no_values o₁ tally →
         record {
           answer = result tally.count;
           written = tally.at;
@@ -145,9 +123,10 @@ module _ (s : ServerState) (pids : List ℕ) (several : Bool) where
           out = o₁;
         } ≡ read_reply s pids several text out
     read_whole {out} {o₁} {counts} {tally} {multi} h l m w =
-        let fit : length (values_bytes (answer_order found)) ≤ length out = omega (arith, found_size) in
-        let many : tally.count ≡ length (answer_order found) = tallied_all (order_fit found (values-known (take r.at left))) fit w in
-        let all : tally.at ≡ length (values_bytes (answer_order found)) = let e = put_whole_lem w.put (omega arith) in omega arith in
+        let known : ValuesFit vs = rw found (values_fit after (lines_of_reply s.framing text) (reply-known s.framing text)) in
+        let fit : length (values_bytes (answer_order vs)) ≤ length out = omega (arith, order_size vs) in
+        let many : tally.count ≡ length (answer_order vs) = tallied_all (order_fit vs known) fit w in
+        let all : tally.at ≡ length (values_bytes (answer_order vs)) = let e = put_whole_lem w.put (omega arith) in omega arith in
         (λ i. record {
           answer = result (many i);
           written = all i;

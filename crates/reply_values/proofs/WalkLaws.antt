@@ -46,40 +46,21 @@ walked-cons lengths e p s =
 pub span_within : (o : Option ℕ) (left : ℕ) → span_of o left ≤ left
 span_within o left = omega arith
 
--- the values from position i on: one with n data bytes, and the end
-module _ (lengths : List ℕ) (e : ℕ) (s : List ℕ) (i : ℕ) where
-  walked_here : (n : ℕ) → i < length s → n ≡ span_of (length_in lengths (get_or s i 0)) (length s - (i + 1)) →
-      walked lengths e (drop i s) ≡ value (get_or s i 0) e (take n (drop (i + 1) s)) ∷ walked lengths e (drop (i + 1 + n) s)
-  walked_here n h q =
-      let left : length (drop (suc i) s) ≡ length s - (i + 1) = omega (arith, length-drop (suc i) s) in
-      let same : span_of (length_in lengths (get_or s i 0)) (length (drop (suc i) s)) ≡ n = ap (span_of (length_in lengths (get_or s i 0))) left ∙ sym q in
-      rw (drop-cons s i 0 h, walked-cons, same, add-one, drop-drop)
+-- the first value of some bytes, and those after it; or none
+pub walked_first : (lengths : List ℕ) (e : ℕ) (s : List ℕ) {n : ℕ} {own next : List ℕ} → 1 ≤ length s → let rest = take (length s - 1) (drop 1 s) in
+    n ≡ span_of (length_in lengths (get_or s 0 0)) (length rest) → own ≡ take n rest → next ≡ drop n rest →
+    walked lengths e s ≡ (value (get_or s 0 0) e own ∷ []) ++ walked lengths e next
+walked_first lengths e [] h q d k = absurd (omega arith)
+walked_first lengths e (p ∷ s) {n} {own} {next} h q d k =
+    let same : take (suc (length s) - 1) s ≡ s = take_all (suc (length s) - 1) s (omega arith) in
+    let size : n ≡ span_of (length_in lengths p) (length s) = q ∙ ap (λ t. span_of (length_in lengths p) (length t)) same in
+    let first : own ≡ take (span_of (length_in lengths p) (length s)) s = d ∙ (λ i. take (size i) (same i)) in
+    let later : next ≡ drop (span_of (length_in lengths p) (length s)) s = k ∙ (λ i. drop (size i) (same i)) in
+    walked-cons lengths e p s ∙ sym (λ i. value p e (first i) ∷ walked lengths e (later i))
 
-  pub walked_end : length s ≤ i → walked lengths e (drop i s) ≡ []
-  walked_end h = rw (drop_of_length-le s h) (walked-nil lengths e)
-
-  -- the first of them, whose data is the part from i + 1 to i + 1 + n, and the others
-  pub walked_split : (n : ℕ) → i < length s → n ≡ span_of (length_in lengths (get_or s i 0)) (length s - (i + 1)) →
-      walked lengths e (drop i s) ≡ (value (get_or s i 0) e (take (i + 1 + n - (i + 1)) (drop (i + 1) s)) ∷ []) ++ walked lengths e (drop (i + 1 + n) s)
-  walked_split n h q =
-      let same : i + 1 + n - (i + 1) ≡ n = omega arith in
-      rw same (walked_here n h q)
-
-  pub walked_fits : (n : ℕ) → i < length s → n ≡ span_of (length_in lengths (get_or s i 0)) (length s - (i + 1)) → i + 1 + n ≤ length s
-  walked_fits n h q = omega (arith, span_within (length_in lengths (get_or s i 0)) (length s - (i + 1)))
-
--- a line gives no value unless it starts with 41; then what stands after that does
-pub line_none : (lengths : List ℕ) (e : ℕ) (l : List ℕ) → length l ≡ 0 → line_values lengths e l ≡ []
-line_none lengths e [] h = refl
-line_none lengths e (m ∷ s) h = absurd (omega arith)
-
-pub line_other : (lengths : List ℕ) (e : ℕ) (l : List ℕ) → (get_or l 0 0 ≡ 0x41 → ⊥) → line_values lengths e l ≡ []
-line_other lengths e [] h = refl
-line_other lengths e (m ∷ s) h = rw (ne_eqb m 0x41 h)
-
-pub line-walked : (lengths : List ℕ) (e : ℕ) (l : List ℕ) → get_or l 0 0 ≡ 0x41 → line_values lengths e l ≡ walked lengths e (take (length l - 1) (drop 1 l))
-line-walked lengths e [] h = absurd (omega arith)
-line-walked lengths e (m ∷ s) h = rw (eq-eqb m 0x41 h, take_all (suc (length s) - 1) s (omega arith))
+pub walked_none : (lengths : List ℕ) (e : ℕ) (s : List ℕ) → length s < 1 → walked lengths e s ≡ []
+walked_none lengths e [] h = walked-nil lengths e
+walked_none lengths e (p ∷ s) h = absurd (omega arith)
 
 -- values as they are written, and then others
 pub bytes_append : (vs ws : List Value) → values_bytes (vs ++ ws) ≡ values_bytes vs ++ values_bytes ws

@@ -9,7 +9,7 @@ use lib.ListN.{length, length-append}
 use borrow.Author.Tests.{le-ltb, ltb-false}
 use Rattle.wire.specs.Answer.{unless}
 use Rattle.wire.specs.declared.Refusal.{Refusal}
-use Rattle.wire.specs.declared.Count.TheVariants.{Is, Refused}
+use Rattle.std.specs.Prelude.{Ok, Err}
 use Rattle.wire.proofs.UnlessLaws.{unless_by}
 use Rattle.wire.proofs.Cases.{or_none_lem}
 use Rattle.group.specs.Group.{is_malformed, list_of}
@@ -28,7 +28,6 @@ use Rattle.reply.specs.Reply.{reply_text}
 use Rattle.reply.specs.Answers as R
 use Rattle.reply.proofs.AnswerLaws.{refused_out, refused_same, replied-rows, written_told}
 use Rattle.server_session.specs.declared.Phase.TheVariants.{Reading}
-use Rattle.server_session.specs.declared.ServerAnswer.TheVariants as answer
 use Rattle.server_session.specs.declared.ServerSession.{ServerSession}
 use Rattle.server_session.specs.declared.ServerStep.{ServerStep}
 use Rattle.server_session.specs.Session.{Session, session}
@@ -37,10 +36,10 @@ use Rattle.server_session.specs.Replies.{line_awaited, at_answered, answer_says,
 
 -- the step that sends what was written, with some settings, and the one that is refused
 abbrev pub sent_step : ClientState → List ℕ → ℕ → ServerStep
-sent_step state line written = record { answer = answer.Reading; taken = 0; written = written; session = record { state = state; line = line; turn = record { phase = Reading; len = 0 } } }
+sent_step state line written = record { answer = Ok Reading; taken = 0; written = written; session = record { state = state; line = line; turn = record { phase = Reading; len = 0 } } }
 
 abbrev pub refused_step : ServerSession → Refusal → ServerStep
-refused_step self r = record { answer = answer.Refused r; taken = 0; written = 0; session = self }
+refused_step self r = record { answer = Err r; taken = 0; written = 0; session = self }
 
 -- a text that fits is sent whole
 pub sent : (state : ClientState) (line text : List ℕ) {out left : List ℕ} {w : ℕ} → Put out 0 text w left → length text ≤ length out →
@@ -102,7 +101,7 @@ module _ (self : ServerSession) (list : List ℕ) (out left : List ℕ) (turn : 
   abbrev hd : Bool
   hd = s.state.headers
 
-  pub reply_refused : (r : Refusal) → count_written (Refused r) left ≡ R.replied lf sp hd list out →
+  pub reply_refused : (r : Refusal) → count_written (Err r) left ≡ R.replied lf sp hd list out →
       server_step (refused_step self r) left ≡ server_lent (reply_says (length out) s list) out
   unfolding reply_says unless
   reply_refused r q =
@@ -113,7 +112,7 @@ module _ (self : ServerSession) (list : List ℕ) (out left : List ℕ) (turn : 
       let kept = refused_out out text left rows r q₁ in
       rw (turn, says, kept)
 
-  pub reply-sent : (n : ℕ) (state : ClientState) → count_written (Is n) left ≡ R.replied lf sp hd list out →
+  pub reply-sent : (n : ℕ) (state : ClientState) → count_written (Ok n) left ≡ R.replied lf sp hd list out →
       settings state ≡ with_last s.state s.line →
       server_step (sent_step state self.line n) left ≡ server_lent (reply_says (length out) s list) out
   unfolding reply_says unless

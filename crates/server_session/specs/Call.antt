@@ -5,7 +5,6 @@ use Rattle.std.proofs.lemmas.List.Edits.{sets}
 use Rattle.wire.specs.declared.Refusal.{Refusal}
 use Rattle.wire.specs.Answer.{Answer, result, refused, answer_as}
 use Rattle.server_session.specs.declared.Phase.{Phase}
-use Rattle.server_session.specs.declared.Phase.TheVariants as phase
 use Rattle.server_session.specs.declared.ServerStep.{ServerStep}
 use Rattle.server_session.specs.Session.{Session, session}
 

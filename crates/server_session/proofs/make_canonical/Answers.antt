@@ -1,33 +1,36 @@
 -- `server_session::make_canonical` meets its contract.
 use mathlib.Core.Path.{sym, ◌∙◌}
+use borrow.Author.Rules.{rules}
 use Prim.Native.Nat.{◌≤◌}
 use native.Mathlib.Omega.{arith}
 use lib.ListN.{length}
-use borrow.Author.Rules.{rules}
 use Rattle.server_session.proofs.LineLaws.{in_space, in_other, in_end}
+use Rattle.server_session.proofs.make_canonical.Goals.{then-not-is_space, else-not-is_space}
 use Rattle.server_session.proofs.make_canonical.Goals as goal
-
-pub loop-i-preserved-then-is_space : goal.loop-i-preserved-then-is_space
-loop-i-preserved-then-is_space c =
-    let z : c.args.size ≤ length c.loop-i.line = omega arith in (
-      search rules,
-      search rules,
-      search rules,
-      in_space c.loop-i.line c.args.size c.loop-i.n c.loop-i.i _ z c.loop-i.invariant.3 c.loop-i-test.true (sym c.is_space.ensures ∙ c.if-is_space.true),
-    )
 
 pub loop-i-preserved : goal.loop-i-preserved
 loop-i-preserved c =
-    let z : c.args.size ≤ length c.loop-i.line = omega arith in (
-      search rules,
-      search rules,
-      search rules,
-      rw c.raise.ensures
-          (in_other c.loop-i.line c.args.size c.loop-i.n c.loop-i.i _ z c.loop-i.invariant.3 c.loop-i-test.true c.loop-i.invariant.1
-          (sym c.is_space.ensures ∙ c.if-is_space.false)),
-    )
+    let loop = c.loop-i in
+    let long : c.args.size ≤ length loop.line = omega arith in
+    elim c.if-not-is_space.branch [
+      | then-not-is_space w ↦ record {
+        below = omega arith;
+        size = search rules;
+        made =
+            rw (w.line-is, w.n-is, w.raise.ensures)
+            (in_other loop.line c.args.size loop.n loop.i _ long loop.invariant.made c.loop-i-test.true loop.invariant.below (sym c.is_space.ensures ∙ w.if-not-is_space.true));
+      }
+      | else-not-is_space w ↦ record {
+        below = omega arith;
+        size = search rules;
+        made =
+            rw (w.line-is, w.n-is)
+            (in_space loop.line c.args.size loop.n loop.i _ long loop.invariant.made c.loop-i-test.true (sym c.is_space.ensures ∙ w.if-not-is_space.false));
+      }
+    ]
 
-pub returns : goal.returns
-returns c =
-    let z : c.args.size ≤ length c.loop-i.line = omega arith in
-    (in_end c.loop-i.line c.args.size c.loop-i.n c.loop-i.i _ z c.loop-i.invariant.3 c.loop-i-test.false, c.loop-i.invariant.2)
+pub returns-clause-made : goal.returns-clause-made
+returns-clause-made c =
+    let loop = c.loop-i in
+    let long : c.args.size ≤ length loop.line = omega arith in
+    in_end loop.line c.args.size loop.n loop.i _ long loop.invariant.made c.loop-i-test.false

@@ -1,22 +1,20 @@
 -- `server_session::ServerSession::reply` meets its contract.
+use mathlib.Core.Path.{◌≡◌, ap, ◌∙◌}
+use mathlib.Core.Bool.{true}
+use borrow.Author.Rules.{rules}
+use Rattle.client_state.specs.Settings.{with_last}
+use Rattle.server_session.specs.Replies.{is_obd}
+use Rattle.server_session.specs.Session.{session}
 use Rattle.server_session.proofs.ReplyLaws.{reply_refused, reply-sent}
-use Rattle.wire.specs.Answer.{unless}
-use Rattle.server_session.specs.Replies.{reply_says}
-use mathlib.Core.Path.{sym, ◌∙◌}
 use Rattle.server_session.proofs.ServerSession.reply.Goals as goal
 
-pub returns-then-not-is_obd-clause-out_after : goal.returns-then-not-is_obd-clause-out_after
-unfolding reply_says unless
-returns-then-not-is_obd-clause-out_after c = let t = sym c.is_obd.ensures ∙ c.if-not-is_obd.true in rw (c.refused.ensures, t)
+pub returns-in-Err-clause-out_after : goal.returns-in-Err-clause-out_after
+returns-in-Err-clause-out_after c =
+    let turn : is_obd c.args.self.turn.phase ≡ true = search rules in
+    rw c.refused-in-Err.ensures (reply_refused c.args.self c.args.list.now c.args.out.now _ turn c.in-Err.refusal c.in-Err.ensures)
 
-pub returns-in-Refused-clause-out_after : goal.returns-in-Refused-clause-out_after
-returns-in-Refused-clause-out_after c =
-    let t = sym c.is_obd.ensures ∙ c.if-not-is_obd.false in
-    let w = rw c.in-Refused.is at c.write_reply-answer.ensures in
-    rw c.refused-in-Refused.ensures (reply_refused c.args.self c.args.list.now c.args.out.now _ t c.in-Refused.refusal w)
-
-pub returns-in-Is-clause-out_after : goal.returns-in-Is-clause-out_after
-returns-in-Is-clause-out_after c =
-    let t = sym c.is_obd.ensures ∙ c.if-not-is_obd.false in
-    let w = rw c.in-Is.is at c.write_reply-answer.ensures in
-    rw c.answered.ensures (reply-sent c.args.self c.args.list.now c.args.out.now _ t _ c.remembered-state.result w c.remembered-state.ensures)
+pub returns-in-Ok-clause-out_after : goal.returns-in-Ok-clause-out_after
+returns-in-Ok-clause-out_after c =
+    let turn : is_obd c.args.self.turn.phase ≡ true = search rules in
+    let last = c.with_last-state.ensures ∙ ap (with_last (session c.args.self).state) c.command.ensures in
+    rw c.answered.ensures (reply-sent c.args.self c.args.list.now c.args.out.now _ turn _ c.with_last-state.result c.in-Ok.ensures last)
