@@ -8,8 +8,8 @@ use lib.Dec.{eqb}
 use lib.ListN.{length, take, drop, get_or, length-take}
 use borrow.Author.Tests.{ltb-false, le-ltb, eq-eqb, ne_eqb}
 use Rattle.wire.specs.declared.Refusal.{Refusal}
-use Rattle.wire.specs.declared.Count.{Count}
-use Rattle.wire.specs.declared.Count.TheVariants.{Is, Refused}
+use Rattle.std.specs.Prelude.{Result, Ok, Err}
+use Rattle.std.specs.Result.{is_err}
 use Rattle.wire.specs.Answer.{Answer, result, refused, number, unless}
 use Rattle.wire.proofs.Cases.{from_no}
 use Rattle.wire.proofs.UnlessLaws.{unless_by}
@@ -86,25 +86,39 @@ unfolding finish_says
 finish_room c store =
     rw (reply_room_lem c (reply_in c store) (omega (arith, length-take c.got (take 4096 store), length-take 4096 store)))
 
+has_number : (a : Result ℕ Refusal) → is_err a ≡ true → (q : Refusal) × (a ≡ Err q)
+has_number (Ok n) k = from_no (cc)
+has_number (Err q) k = (q, refl)
+
+has_count : (a : Result ℕ Refusal) → is_err a ≡ false → (n : ℕ) × (a ≡ Ok n)
+has_count (Ok n) k = (n, refl)
+has_count (Err q) k = from_no (cc)
+
 -- what an answer comes to in the record, by whether it has a number
-pub part_none : (a : Answer Progress) (n : ℕ) → part_text (Is n) [] ≡ part_of a [] → (p : Progress) × (a ≡ result p)
+pub part_none : (a : Answer Progress) (n : ℕ) → part_text (Ok n) [] ≡ part_of a [] → (p : Progress) × (a ≡ result p)
 part_none (result p) n e = (p, refl)
 part_none (refused m) n e = from_no (cc)
 
-pub part-ends : (a : Answer Progress) (q : Refusal) → part_text (Refused q) [] ≡ part_of a [] → a ≡ refused (number q)
+pub part-ends : (a : Answer Progress) (q : Refusal) → part_text (Err q) [] ≡ part_of a [] → a ≡ refused (number q)
 part-ends (result p) q e = from_no (cc)
 part-ends (refused m) q e = cc
 
--- the reply got a number
-pub reply_refused : (asked : code-round.Round) (q : Refusal) (a : Count) (values store lengths : List ℕ) → length values ≡ reply_room → a ≡ Refused q →
-    client_answer asked.answer ≡ refused (number q) →
-    PartDoes (finished (round_of asked [] store lengths)) (record { answer = a; written = 0; bench = asked.bench }) values store lengths
-reply_refused asked q a values store lengths size k e = rw (e, k) (record { answer = refl; bench = refl; inside = omega arith; room = size })
+-- the reply came to an answer
+module _ (asked : code-round.Round) (a : Result ℕ Refusal) (told : (text : List ℕ) → part_text a text ≡ part_of (client_answer asked.answer) text) (values store lengths : List ℕ) where
+  -- with a number
+  pub reply_refused : is_err a ≡ true → length values ≡ reply_room →
+      PartDoes (finished (round_of asked [] store lengths)) (record { answer = a; written = 0; bench = asked.bench }) values store lengths
+  reply_refused k size =
+      let (q, is) = has_number a k in
+      rw (part-ends (client_answer asked.answer) q (rw is at (told [])))
+      (record { answer = ap (λ (a : Result ℕ Refusal). part_text a (take 0 values)) is; bench = refl; inside = omega arith; room = size })
 
--- it got none, and the query is finished
-pub reply-closed : (asked : code-round.Round) (r : PartStep) (values store lengths : List ℕ) {p : Progress} → client_answer asked.answer ≡ result p →
-    PartDoes (closed (bench_of asked.bench store lengths)) r values store lengths → PartDoes (finished (round_of asked [] store lengths)) r values store lengths
-reply-closed asked r values store lengths e d = rw e d
+  -- with none, and the query is finished
+  pub reply-closed : (r : PartStep) → is_err a ≡ false → PartDoes (closed (bench_of asked.bench store lengths)) r values store lengths →
+      PartDoes (finished (round_of asked [] store lengths)) r values store lengths
+  reply-closed r k d =
+      let (n, is) = has_count a k in
+      rw (part_none (client_answer asked.answer) n (rw is at (told []))).1 d
 
 -- the query is finished by the step s
 module _ (b : code.Bench) (store values : List ℕ) (size : length values ≡ reply_room) (s : ClientStep) (left : List ℕ)
@@ -120,7 +134,7 @@ module _ (b : code.Bench) (store values : List ℕ) (size : length values ≡ re
   few : length says.text ≤ length values
   few = omega (arith, size, finish_fits values_room (client b.client) store)
 
-  pub close_does : (a : Count) → ((text : List ℕ) → part_text a text ≡ part_of (client_answer s.answer) text) → (lengths : List ℕ) →
+  pub close_does : (a : Result ℕ Refusal) → ((text : List ℕ) → part_text a text ≡ part_of (client_answer s.answer) text) → (lengths : List ℕ) →
       PartDoes (closed (bench_of b store lengths))
       (record { answer = a; written = s.written; bench = record { client = s.session; server = b.server; used = b.used } }) left store lengths
   close_does a told lengths =

@@ -1,4 +1,5 @@
 -- Laws of the run over the queries of a script: a part in the record, and what is left of the run at a position of the script and of the record.
+use mathlib.Core.Bool.{true, false}
 use mathlib.Core.Path.{◌≡◌, refl, sym, ap, subst, ◌∙◌}
 use mathlib.Core.List.{List, [], ◌∷◌, ◌++◌, append-nil}
 use Prim.Native.Nat.{ℕ, ◌+◌, ◌-◌, ◌≤◌, ◌<◌}
@@ -18,17 +19,16 @@ use Rattle.group.specs.Group.{group_bytes}
 use Rattle.client_session.specs.Session.{client}
 use Rattle.bench.specs.Script.{Query, query_format}
 use Rattle.bench.specs.Steps.{query_step, query_at}
-use Rattle.bench.specs.declared.ScriptCursor.{ScriptCursor}
-use Rattle.bench.specs.declared.QueryStep.{QueryStep}
-use Rattle.bench.specs.declared.QueryStep.TheVariants as step
+use Rattle.bench.specs.declared.QueryPlace.{QueryPlace}
+use Rattle.std.specs.Prelude.{Ok, Err, Some, None}
+use Rattle.std.specs.Prelude as rust
+use Rattle.std.specs.Result.{is_err}
 use Rattle.bench.proofs.StepLaws.{QueryHere, step_end, step_none}
 use Rattle.bench.proofs.ScriptLaws.{ahead_start}
 use Rattle.bench.proofs.QueryLaws.{query_lawful, query_some}
 use Rattle.group.proofs.WalkLaws.{Ahead, ahead_end, ahead_none, ahead_thing}
 use Rattle.bench.specs.declared.Bench as code
 use Rattle.bench.specs.declared.BenchRun.{BenchRun}
-use Rattle.bench.specs.declared.RunAnswer.TheVariants.{Complete, Refused}
-use Rattle.wire.specs.declared.Count.TheVariants as counts
 use Rattle.bench.specs.declared.PartStep.{PartStep}
 use Rattle.bench.specs.Run.{Part, start_says, asking, finished, part, Run, after, asked, run_answer, Recorded, recorded, run_lent}
 use Rattle.bench.specs.Steps.{bench_of, part_text, PartDoes, IsScript, or_none, queries_of, standing, added, lent_from}
@@ -37,17 +37,25 @@ use Rattle.bench.specs.Steps.{bench_of, part_text, PartDoes, IsScript, or_none, 
 recorded-same : {x y : Recorded} → x.answer ≡ y.answer → x.written ≡ y.written → x.out ≡ y.out → x ≡ y
 recorded-same a w o = λ i. record { answer = a i; written = w i; out = o i }
 
+run_refused : (a : rust.Result (Unit {0}) Refusal) → is_err a ≡ true → (n : ℕ) × (run_answer a ≡ refused n)
+run_refused (Ok u) k = from_no (cc)
+run_refused (Err q) k = (number q, refl)
+
+run_complete : (a : rust.Result (Unit {0}) Refusal) → is_err a ≡ false → run_answer a ≡ result tt
+run_complete (Ok u) k = refl
+run_complete (Err q) k = from_no (cc)
+
 -- ---- a part in the record
 
 module _ (at : ℕ) (buffer : List ℕ) (r : BenchRun) where
   -- a number ends the run
-  pub number-ends : (room : ℕ) (q : Refusal) (text : List ℕ) → r ≡ record { answer = Refused q; written = at } →
-      recorded r buffer ≡ lent_from at (added room (part_text (counts.Refused q) text)) buffer
+  pub number-ends : (room : ℕ) (q : Refusal) (text : List ℕ) → r ≡ record { answer = Err q; written = at } →
+      recorded r buffer ≡ lent_from at (added room (part_text (Err q) text)) buffer
   number-ends room q text e = ap (λ (x : BenchRun). recorded x buffer) e ∙ recorded-same refl (omega arith) refl
 
   -- 6: there is no room for the part
-  pub no_room : (room count : ℕ) (text : List ℕ) → room < length (group_bytes count) + length text → r ≡ record { answer = Refused SmallBuffer; written = at } →
-      recorded r buffer ≡ lent_from at (added room (part_text (counts.Is count) text)) buffer
+  pub no_room : (room count : ℕ) (text : List ℕ) → room < length (group_bytes count) + length text → r ≡ record { answer = Err SmallBuffer; written = at } →
+      recorded r buffer ≡ lent_from at (added room (part_text (Ok count) text)) buffer
   no_room room count text h e =
       let long = lt-ltb room (length (group_bytes count ++ text)) (omega (arith, length-append (group_bytes count) text)) in
       ap (λ (x : BenchRun). recorded x buffer) e ∙ rw long (recorded-same refl (omega arith) refl)
@@ -55,7 +63,7 @@ module _ (at : ℕ) (buffer : List ℕ) (r : BenchRun) where
 -- the part is written
 pub part_fits : (at : ℕ) (buffer left : List ℕ) (end count : ℕ) (text : List ℕ) → at ≤ length buffer →
     length (group_bytes count) + length text ≤ length buffer - at → Put buffer at (group_bytes count ++ text) end left →
-    recorded (record { answer = Complete; written = end }) left ≡ lent_from at (added (length buffer - at) (part_text (counts.Is count) text)) buffer
+    recorded (record { answer = Ok tt; written = end }) left ≡ lent_from at (added (length buffer - at) (part_text (Ok count) text)) buffer
 part_fits at buffer left end count text inside h p =
     let bytes = group_bytes count ++ text in
     let size = length-append (group_bytes count) text in
@@ -132,25 +140,22 @@ left_start s lengths b place at buffer store (qs, h) p z =
 
 module _ {whole : Recorded} {s lengths : List ℕ} {b : code.Bench} {place at : ℕ} {buffer store : List ℕ} (l : Left whole s lengths b place at buffer store) where
   -- at the end nothing is left
-  left_end : length s ≤ place → recorded (record { answer = Complete; written = at }) buffer ≡ whole
-  left_end h =
-      let none = ahead_end query_format s place l.queries l.ahead h in
+  pub left_done : query_step (Ok None) ≡ query_at s place → recorded (record { answer = Ok tt; written = at }) buffer ≡ whole
+  left_done e =
+      let none = ahead_end query_format s place l.queries l.ahead (step_end s place e) in
       sym (l.rest ∙ ap (λ qs. lent_from at (asked (length buffer - at) (bench_of b store lengths) qs) buffer) none ∙ recorded-same refl (omega arith) refl)
 
-  -- and before the end a step finds a query
-  pub left_done : (r : QueryStep) → query_step r ≡ query_at s place →
-      ((pids few count list : ℕ) (next : ScriptCursor) → r ≡ step.Query pids few count list next → ⊥) →
-      recorded (record { answer = Complete; written = at }) buffer ≡ whole
-  left_done (step.Query pids few count list next) e k = absurd (k pids few count list next refl)
-  left_done step.End e k = left_end (step_end s place e refl)
-  left_done (step.Refused n) e k = let none = step_none s place {n = n} e refl in absurd (ahead_none query_format s place l.queries l.ahead none.0 none.1)
+  -- and no step is refused
+  pub left-read : (n : Refusal) → query_step (Err n) ≡ query_at s place → ⊥
+  left-read n e = let none = step_none s place n e in ahead_none query_format s place l.queries l.ahead none.0 none.1
 
   -- a query has been asked, and r is what became of its part
-  module _ (q : Query) (pids few count list next : ℕ) (w : QueryHere s place q pids few count list next) (p : PartStep) (values store₁ : List ℕ)
+  module _ (q : Query) (a : QueryPlace) (w : QueryHere s place q a) (p : PartStep) (values store₁ : List ℕ)
       (does :
       PartDoes
       (finished
-      (asking (bench_of b store lengths) (start_says (client b.client) (take (pids + few - pids) (drop pids s)) count) (take (next - list) (drop list s))))
+      (asking (bench_of b store lengths) (start_says (client b.client) (take (a.pids + a.few - a.pids) (drop a.pids s)) a.count)
+      (take (a.next.at - a.list) (drop a.list s))))
       p values store₁ lengths)
       (r : BenchRun) (buffer₁ : List ℕ)
       (e : recorded r buffer₁ ≡ lent_from at (added (length buffer - at) (part_text p.answer (take p.written values))) buffer) where
@@ -163,8 +168,8 @@ module _ {whole : Recorded} {s lengths : List ℕ} {b : code.Bench} {place at : 
     abbrev says : Part
     says = part (bench_of b store lengths) q
 
-    its_pids : take (pids + few - pids) (drop pids s) ≡ q.pids
-    its_pids = let width : pids + few - pids ≡ few = omega arith in ap (λ n. take n (drop pids s)) width ∙ w.its_pids
+    its_pids : take (a.pids + a.few - a.pids) (drop a.pids s) ≡ q.pids
+    its_pids = let width : a.pids + a.few - a.pids ≡ a.few = omega arith in ap (λ n. take n (drop a.pids s)) width ∙ w.its_pids
 
     does_part : PartDoes says p values store₁ lengths
     unfolding part
@@ -178,23 +183,24 @@ module _ {whole : Recorded} {s lengths : List ℕ} {b : code.Bench} {place at : 
 
     one_more : (qs : List Query) → l.queries ≡ q ∷ qs → whole ≡ lent_from at (standing room answer says.handed (others qs)) buffer
     one_more qs f =
-        let a = sym does_part.answer in
-        let c = sym does_part.bench in
+        let told = sym does_part.answer in
+        let then = sym does_part.bench in
         l.rest ∙
         ap (λ qs. lent_from at (asked room (bench_of b store lengths) qs) buffer) f ∙
-        (λ i. lent_from at (standing room (a i) says.handed (λ bytes. asked (room - length bytes) (c i) qs)) buffer)
+        (λ i. lent_from at (standing room (told i) says.handed (λ bytes. asked (room - length bytes) (then i) qs)) buffer)
 
     -- a number ends the run
-    pub left_refused : (refusal : Refusal) → r.answer ≡ Refused refusal → recorded r buffer₁ ≡ whole
-    left_refused refusal k =
+    pub left_refused : is_err r.answer ≡ true → recorded r buffer₁ ≡ whole
+    left_refused k =
         let (qs, f, _) = ahead_thing query_format s place l.queries l.ahead query_lawful query_some w.here in
-        e ∙ sym (one_more qs f ∙ number-last room at buffer answer says.handed (others qs) (number refusal) (sym (ap (λ (x : Recorded). x.answer) e) ∙ ap run_answer k))
+        let (n, none) = run_refused r.answer k in
+        e ∙ sym (one_more qs f ∙ number-last room at buffer answer says.handed (others qs) n (sym (ap (λ (x : Recorded). x.answer) e) ∙ none))
 
     -- the part stands
-    pub left-next : r.answer ≡ Complete → Left whole s lengths p.bench next r.written buffer₁ store₁
+    pub left-next : is_err r.answer ≡ false → Left whole s lengths p.bench a.next.at r.written buffer₁ store₁
     left-next k =
         let (qs, f, g) = ahead_thing query_format s place l.queries l.ahead query_lawful query_some w.here in
-        let t = part_stands at buffer answer says.handed (others qs) l.inside (sym (ap (λ (x : Recorded). x.answer) e) ∙ ap run_answer k) in
+        let t = part_stands at buffer answer says.handed (others qs) l.inside (sym (ap (λ (x : Recorded). x.answer) e) ∙ run_complete r.answer k) in
         let end = ap (λ (x : Recorded). x.written) e in
         let out = ap (λ (x : Recorded). x.out) e in
         let size : r.written ≡ at + length t.bytes = end ∙ t.size in

@@ -2,7 +2,8 @@
 use mathlib.Core.Path.{◌≡◌, refl, sym, ap, subst, ◌∙◌}
 use mathlib.Core.Bool.{Bool, true, false, cond}
 use mathlib.Core.List.{List}
-use Prim.Native.Nat.{ℕ, zero, suc, ◌-◌, ◌<◌, ◌≤◌}
+use Prim.Native.Nat.{ℕ, zero, suc, ◌+◌, ◌<◌, ◌≤◌}
+use native.Mathlib.Numerals.{add-one}
 use native.Mathlib.Omega.{arith}
 use lib.Dec.{ltb}
 use lib.ListN.{length}
@@ -53,11 +54,8 @@ onward_stops (suc n) t list e = rw (le-ltb 0 (length t.text) e) (held_same t)
 one_goes : (n : ℕ) (t : Round) (list : List ℕ) → 0 < length t.text → Held (onward (suc n) t list) (onward n (round t.bench t.text list) list)
 one_goes n t list e = rw (lt-ltb 0 (length t.text) e) (record { answer = refl; text = refl; bench = refl })
 
-pub onward_goes : (n : ℕ) (t : Round) (list : List ℕ) → 0 < n → 0 < length t.text → Held (onward n t list) (onward (n - 1) (round t.bench t.text list) list)
-onward_goes zero t list h e = absurd (omega arith)
-onward_goes (suc n) t list h e =
-    let less : n ≡ suc n - 1 = omega arith in
-    subst (λ m. Held (onward (suc n) t list) (onward m (round t.bench t.text list) list)) less (one_goes n t list e)
+pub onward_goes : (n m : ℕ) (t : Round) (list : List ℕ) → n ≡ m + 1 → 0 < length t.text → Held (onward n t list) (onward m (round t.bench t.text list) list)
+onward_goes n m t list h e = rw (h, add-one) (one_goes m t list e)
 
 pub onward-ended : (n : ℕ) (t : Round) (list : List ℕ) → n ≤ 0 → Held (onward n t list) t
 onward-ended zero t list h = held_same t

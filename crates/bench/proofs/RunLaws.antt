@@ -8,7 +8,7 @@ use Rattle.wire.specs.declared.Refusal.{Refusal}
 use Rattle.wire.specs.Answer.{Answer, result, refused, number, if_result}
 use Rattle.client_session.specs.Call.{Progress, client_answer}
 use Rattle.bench.specs.Script.{Query, script}
-use Rattle.bench.specs.declared.RunAnswer.TheVariants.{Refused}
+use Rattle.std.specs.Prelude.{Err}
 use Rattle.bench.specs.declared.BenchRun.{BenchRun}
 use Rattle.bench.specs.declared.Round as code-round
 use Rattle.bench.specs.Run.{Round, Run, ended, after, asked, initialised, run_says, recorded, run_lent}
@@ -23,7 +23,7 @@ module _ (repeat : Bool) (lengths s buffer : List ℕ) where
   says = run_says repeat lengths (length buffer) s
 
   -- the script gets a number
-  pub script_refused : (q : Refusal) (r : BenchRun) → script s ≡ refused (number q) → r ≡ record { answer = Refused q; written = 0 } → recorded r buffer ≡ run_lent says buffer
+  pub script_refused : (q : Refusal) (r : BenchRun) → script s ≡ refused (number q) → r ≡ record { answer = Err q; written = 0 } → recorded r buffer ≡ run_lent says buffer
   unfolding run_says
   script_refused q r e k = rw (k, e)
 
@@ -33,7 +33,7 @@ module _ (repeat : Bool) (lengths s buffer : List ℕ) where
     unfolding run_says
     begins = rw (is.1, does.answer)
 
-    pub begin_refused : (q : Refusal) (r : BenchRun) → client_answer t.answer ≡ refused (number q) → r ≡ record { answer = Refused q; written = 0 } →
+    pub begin_refused : (q : Refusal) (r : BenchRun) → client_answer t.answer ≡ refused (number q) → r ≡ record { answer = Err q; written = 0 } →
         recorded r buffer ≡ run_lent says buffer
     begin_refused q r e k = rw (k, begins, e)
 

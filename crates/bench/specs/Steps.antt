@@ -1,8 +1,8 @@
 -- What the private steps of the code do. No public contract cites these.
 use Rattle.std.specs.Prelude.{◌≡◌, Bool, true, cond, List, [], ◌∷◌, ◌++◌, ℕ, ◌+◌, ◌-◌, ◌≤◌, ltb, length, take, drop}
-use Rattle.std.proofs.Math.Option.{Option, none, some}
+use Rattle.std.proofs.Math.Option.{Option}
 use Rattle.std.proofs.lemmas.List.Edits.{sets}
-use Rattle.wire.specs.Answer.{Answer, result, refused, if_result, answer_as, count_answer}
+use Rattle.wire.specs.Answer.{Answer, result, refused, if_result, answer_as, option_as, count_answer}
 use Rattle.wire.specs.declared.Refusal.{Refusal}
 use Rattle.std.specs.Prelude as rust
 use Rattle.wire.specs.Text.{joined}
@@ -168,12 +168,11 @@ pub record QueryPlace : Type 0 where
   pub list : ℕ
   pub next : ℕ
 
-abbrev pub query_place : rust.Option code-place.QueryPlace → Option QueryPlace
-query_place (rust.Some q) = some (record { pids = q.pids; few = q.few; count = q.count; list = q.list; next = q.next.at })
-query_place rust.None = none
+abbrev pub query_place : code-place.QueryPlace → QueryPlace
+query_place q = record { pids = q.pids; few = q.few; count = q.count; list = q.list; next = q.next.at }
 
 abbrev pub query_step : rust.Result (rust.Option code-place.QueryPlace) Refusal → Answer (Option QueryPlace)
-query_step r = answer_as query_place r
+query_step r = answer_as (option_as query_place) r
 
 -- a query at a position, of which so much of n bytes is left: its PIDs stand after their count, and its lines before what is left
 abbrev pub query_in : ℕ → ℕ → Query → List ℕ → QueryPlace

@@ -71,9 +71,8 @@ pub(crate) fn part_answer(answer: Result<ClientAnswer, ClientError>) -> Result<u
 {
     match answer? {
         ClientAnswer::Values(count) => Ok(count),
-        ClientAnswer::Sent | ClientAnswer::Awaited | ClientAnswer::Over | ClientAnswer::Complete => {
-            Ok(0)
-        }
+        ClientAnswer::Sent | ClientAnswer::Awaited => Ok(0),
+        ClientAnswer::Over | ClientAnswer::Complete => Ok(0),
     }
 }
 

@@ -106,6 +106,7 @@ fn put_part(buffer: &mut [u8], at: usize, count: usize, values: &[u8]) -> usize
 }
 
 // Writes a query's part, which has size bytes of values, into the record from position at on, if there is room for it.
+#[tactic(auto, using(group::proofs::GroupLaws::group_bytes_ten))]
 fn add_part(
     answer: Result<usize, Refusal>,
     size: usize,

@@ -7,9 +7,9 @@ use Prim.Native.Nat.{◌-◌}
 use mathlib.Core.Path.{◌≡◌}
 use Rattle.bench.proofs.ask_all.Given as goal
 
-abbrev pub invariant-loop-pids : goal.invariant-loop-pids
-invariant-loop-pids l = Left (run_lent (asked (length l.initial.buffer) (bench_of l.initial.bench l.initial.store l.lengths) (queries_of l.script)) l.initial.buffer) l.script l.lengths l.bench l.cursor.at l.at l.buffer l.store × (length l.work ≡ reply_room) ×
+abbrev pub invariant-loop-query : goal.invariant-loop-query
+invariant-loop-query l = Left (run_lent (asked (length l.initial.buffer) (bench_of l.initial.bench l.initial.store l.lengths) (queries_of l.script)) l.initial.buffer) l.script l.lengths l.bench l.cursor.at l.at l.buffer l.store × (length l.work ≡ reply_room) ×
     (length l.buffer ≡ length l.initial.buffer) × (length l.store ≡ length l.initial.store)
 
-abbrev pub decreases-loop-pids : goal.decreases-loop-pids
-decreases-loop-pids l = length l.script - l.cursor.at
+abbrev pub decreases-loop-query : goal.decreases-loop-query
+decreases-loop-query l = length l.script - l.cursor.at

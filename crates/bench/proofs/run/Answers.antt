@@ -5,11 +5,11 @@ use Rattle.bench.proofs.run.Goals as goal
 
 pub run_checked-requires : goal.run_checked-requires
 run_checked-requires c =
-    let q = check_queries c.args.script.now c.check_script.ensures c.in-Is.is in
+    let q = check_queries c.args.script.now (rw c.in-Ok.is at c.check_script.ensures) in
     (q.0, q.1)
 
-pub returns-in-Refused : goal.returns-in-Refused
-returns-in-Refused c =
-    let refusal = c.in-Refused.refusal in
+pub returns-in-Err : goal.returns-in-Err
+returns-in-Err c =
+    let refusal = c.in-Err.refusal in
     script_refused c.args.repeat c.args.lengths.now c.args.script.now c.args.buffer.now _ c.refused.result
-    (check_none c.args.script.now c.check_script.ensures c.in-Refused.is) c.refused.ensures
+    (check_none c.args.script.now refusal (rw c.in-Err.is at c.check_script.ensures)) c.refused.ensures

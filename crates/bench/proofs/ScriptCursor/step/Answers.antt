@@ -1,68 +1,56 @@
 -- `script::ScriptCursor::step` meets its contract: each way out by the law of what stands at the position.
-use mathlib.Core.Path.{sym}
+use mathlib.Core.Path.{sym, ap, ◌∙◌}
 use Prim.Native.Nat.{◌<◌}
 use native.Mathlib.Omega.{arith}
 use Rattle.wire.proofs.All.{Bytes, all_from}
-use Rattle.group.proofs.AtLaws.{number_at, none_at}
+use Rattle.wire.proofs.TryLaws.{passed_on}
+use Rattle.group.proofs.AtLaws.{number_at, refused_at}
+use Rattle.bench.specs.Steps.{query_step}
 use Rattle.bench.proofs.LinesLaws.{skip_to, skip_no}
 use Rattle.bench.proofs.StepLaws.{PidsAt, at_end, at_no_few, at_zero, at_no_pids, at_no_count, at_no_size, at_no_lines, at_lines}
 use Rattle.bench.proofs.ScriptCursor.step.Goals as goal
 
-pub returns-then-script-at : goal.returns-then-script-at
-returns-then-script-at c = sym (at_end _ _ c.if-script-at.true)
+pub returns-then-script-self : goal.returns-then-script-self
+returns-then-script-self c = sym (at_end _ _ c.if-script-self.true)
 
-pub returns-in_default : goal.returns-in_default
-returns-in_default c = sym (at_no_few _ _ c.if-script-at.false (none_at 6 _ _ c.read_group.ensures c.in_default.is))
+pub returns-in_err-few : goal.returns-in_err-few
+returns-in_err-few c = ap query_step (passed_on c.from_residual.ensures) ∙ sym (at_no_few _ _ c.if-script-self.false (refused_at 6 _ _ _ c.in_err-few.ensures))
 
 pub returns-then-few-eq0 : goal.returns-then-few-eq0
-returns-then-few-eq0 c =
-    let few = number_at 6 _ _ c.read_group.ensures c.in-Number.is in
-    sym (at_zero _ _ _ _ few c.if-few-eq0.true)
+returns-then-few-eq0 c = sym (at_zero _ _ _ _ (number_at 6 _ _ c.in_ok-few.ensures) c.if-few-eq0.true)
 
 pub overflow_sub-script : goal.overflow_sub-script
-overflow_sub-script c =
-    let few = number_at 6 _ _ c.read_group.ensures c.in-Number.is in
-    omega (arith, few.inside)
+overflow_sub-script c = omega (arith, (number_at 6 _ _ c.in_ok-few.ensures).inside)
 
 pub returns-then-script-pids : goal.returns-then-script-pids
-returns-then-script-pids c =
-    let few = number_at 6 _ _ c.read_group.ensures c.in-Number.is in
-    sym (at_no_pids _ _ _ _ few c.if-script-pids.true)
+returns-then-script-pids c = sym (at_no_pids _ _ _ _ (number_at 6 _ _ c.in_ok-few.ensures) c.if-script-pids.true)
 
-pub returns-in_default-read_group : goal.returns-in_default-read_group
-returns-in_default-read_group c =
-    let few = number_at 6 _ _ c.read_group.ensures c.in-Number.is in
-    let pids : PidsAt c.args.script.now c.args.self.at c.in-Number.few c.in-Number.pids = record { number = few; some = c.if-few-eq0.false; room = c.if-script-pids.false } in
-    sym (at_no_count _ _ _ _ pids (none_at 256 _ _ c.read_group-2.ensures c.in_default-read_group.is))
+pub returns-in_err-count : goal.returns-in_err-count
+returns-in_err-count c =
+    let pids : PidsAt c.args.script.now c.args.self.at c.in_ok-few.few.value c.in_ok-few.few.next = record { number = number_at 6 _ _ c.in_ok-few.ensures; some = c.if-few-eq0.false; room = c.if-script-pids.false } in
+    ap query_step (passed_on c.from_residual-in_err-count.ensures) ∙ sym (at_no_count _ _ _ _ pids (refused_at 256 _ _ _ c.in_err-count.ensures))
 
-pub returns-in_default-read_group-2 : goal.returns-in_default-read_group-2
-returns-in_default-read_group-2 c =
-    let few = number_at 6 _ _ c.read_group.ensures c.in-Number.is in
-    let pids : PidsAt c.args.script.now c.args.self.at c.in-Number.few c.in-Number.pids = record { number = few; some = c.if-few-eq0.false; room = c.if-script-pids.false } in
-    let count = number_at 256 _ _ c.read_group-2.ensures c.in-Number-read_group.is in
-    sym (at_no_size _ _ _ _ pids _ _ count (none_at 64 _ _ c.read_group-3.ensures c.in_default-read_group-2.is))
+pub returns-in_err-lines : goal.returns-in_err-lines
+returns-in_err-lines c =
+    let pids : PidsAt c.args.script.now c.args.self.at c.in_ok-few.few.value c.in_ok-few.few.next = record { number = number_at 6 _ _ c.in_ok-few.ensures; some = c.if-few-eq0.false; room = c.if-script-pids.false } in
+    ap query_step (passed_on c.from_residual-in_err-lines.ensures) ∙
+    sym (at_no_size _ _ _ _ pids _ _ (number_at 256 _ _ c.in_ok-count.ensures) (refused_at 64 _ _ _ c.in_err-lines.ensures))
 
 pub skip_lines-requires : goal.skip_lines-requires
-skip_lines-requires c = let size = number_at 64 _ _ c.read_group-3.ensures c.in-Number-read_group-2.is in size.inside
+skip_lines-requires c = (number_at 64 _ _ c.in_ok-lines.ensures).inside
+
+pub returns-in_err-next : goal.returns-in_err-next
+returns-in_err-next c =
+    let pids : PidsAt c.args.script.now c.args.self.at c.in_ok-few.few.value c.in_ok-few.few.next = record { number = number_at 6 _ _ c.in_ok-few.ensures; some = c.if-few-eq0.false; room = c.if-script-pids.false } in
+    ap query_step (passed_on c.from_residual-in_err-next.ensures) ∙
+    sym (at_no_lines _ _ _ _ pids _ _ (number_at 256 _ _ c.in_ok-count.ensures) _ _ (number_at 64 _ _ c.in_ok-lines.ensures) (skip_no _ _ _ _ c.in_err-next.ensures))
 
 pub overflow_cast-result : goal.overflow_cast-result
-overflow_cast-result c = let count = number_at 256 _ _ c.read_group-2.ensures c.in-Number-read_group.is in omega (arith, count.within)
+overflow_cast-result c = omega (arith, (number_at 256 _ _ c.in_ok-count.ensures).within)
 
-pub returns-in-Is : goal.returns-in-Is
-returns-in-Is c =
-    let few = number_at 6 _ _ c.read_group.ensures c.in-Number.is in
-    let pids : PidsAt c.args.script.now c.args.self.at c.in-Number.few c.in-Number.pids = record { number = few; some = c.if-few-eq0.false; room = c.if-script-pids.false } in
-    let count = number_at 256 _ _ c.read_group-2.ensures c.in-Number-read_group.is in
-    let size = number_at 64 _ _ c.read_group-3.ensures c.in-Number-read_group-2.is in
+pub returns : goal.returns
+returns c =
+    let pids : PidsAt c.args.script.now c.args.self.at c.in_ok-few.few.value c.in_ok-few.few.next = record { number = number_at 6 _ _ c.in_ok-few.ensures; some = c.if-few-eq0.false; room = c.if-script-pids.false } in
     let bytes : Bytes c.args.script.now = all_from (λ b. b < 256) c.args.script.now (λ i h. omega (arith, c.type_inv.script i)) in
-    let (ls, rest, h, e) = skip_to _ _ _ c.skip_lines.ensures c.in-Is.is in
-    sym (at_lines _ _ _ _ pids _ _ count _ _ size bytes ls rest _ h e)
-
-pub returns-in-Refused : goal.returns-in-Refused
-returns-in-Refused c =
-    let few = number_at 6 _ _ c.read_group.ensures c.in-Number.is in
-    let pids : PidsAt c.args.script.now c.args.self.at c.in-Number.few c.in-Number.pids = record { number = few; some = c.if-few-eq0.false; room = c.if-script-pids.false } in
-    let count = number_at 256 _ _ c.read_group-2.ensures c.in-Number-read_group.is in
-    let size = number_at 64 _ _ c.read_group-3.ensures c.in-Number-read_group-2.is in
-    let none = skip_no _ _ _ c.skip_lines.ensures c.in-Refused.is in
-    sym (at_no_lines _ _ _ _ pids _ _ count _ _ size none)
+    let (ls, rest, h, e) = skip_to _ _ _ c.in_ok-next.ensures in
+    sym (at_lines _ _ _ _ pids _ _ (number_at 256 _ _ c.in_ok-count.ensures) _ _ (number_at 64 _ _ c.in_ok-lines.ensures) bytes ls rest _ h e)

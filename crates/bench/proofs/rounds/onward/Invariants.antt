@@ -3,13 +3,10 @@ use Rattle.bench.proofs.OnwardLaws.{Held}
 use Rattle.bench.specs.Steps.{round_of, Room}
 use Rattle.bench.specs.Run.{onward}
 use lib.ListN.{length}
-use Prim.Native.Nat.{◌≤◌}
+use Prim.Native.Nat.{◌-◌, ◌≤◌}
 use mathlib.Core.Path.{◌≡◌}
 use Rattle.bench.proofs.rounds.onward.Given as goal
 
-abbrev pub invariant-loop-left : goal.invariant-loop-left
-invariant-loop-left l = Held (onward l.n (round_of l.initial.at l.initial.out l.initial.store l.lengths) l.list) (onward l.left (round_of l.at l.out l.store l.lengths) l.list) ×
+abbrev pub invariant-loop : goal.invariant-loop
+invariant-loop l = Held (onward l.n (round_of l.initial.at l.initial.out l.initial.store l.lengths) l.list) (onward (l.n - l.counter) (round_of l.at l.out l.store l.lengths) l.list) ×
     (l.at.written ≤ length l.out) × Room l.out l.reply × (length l.store ≡ length l.initial.store)
-
-abbrev pub decreases-loop-left : goal.decreases-loop-left
-decreases-loop-left l = l.left

@@ -7,8 +7,8 @@ use Rattle.group.proofs.WalkLaws.{from, counted_from}
 use Rattle.bench.specs.Script.{query_format}
 use Rattle.bench.proofs.script.check_script.Given as goal
 
-abbrev pub invariant-loop-next : goal.invariant-loop-next
-invariant-loop-next l = (l.queries ≤ l.cursor.at) × (l.cursor.at ≤ length l.script) × (counted_from l.queries (from query_format l.script l.cursor.at) ≡ queries_in l.script)
+abbrev pub invariant-loop-query : goal.invariant-loop-query
+invariant-loop-query l = (l.queries ≤ l.cursor.at) × (l.cursor.at ≤ length l.script) × (counted_from l.queries (from query_format l.script l.cursor.at) ≡ queries_in l.script)
 
-abbrev pub decreases-loop-next : goal.decreases-loop-next
-decreases-loop-next l = length l.script - l.cursor.at
+abbrev pub decreases-loop-query : goal.decreases-loop-query
+decreases-loop-query l = length l.script - l.cursor.at
