@@ -32,7 +32,7 @@ use Rattle.client_session.specs.Finish.{finish_says}
 use Rattle.bench.specs.Script.{Query, query, query_format, script}
 use Rattle.bench.specs.Exchange.{exchanged}
 use Rattle.bench.specs.Deliver.{pieces}
-use Rattle.bench.specs.declared.RunAnswer.TheVariants.{Complete, Refused}
+use Rattle.std.specs.Prelude.{Ok, Err}
 use Rattle.bench.specs.Run.{initialised, part, run_says, recorded, run_lent}
 use Rattle.agreement.specs.Lines.{end, next, alone, table}
 use Rattle.agreement.specs.Demand.{first_parts, Drive, drive, comes_to, Ran, hire_record, GoodFirst, GoodAll, EveryFits, Holds, Equal, EqualFirst}
@@ -89,7 +89,7 @@ apart =
     own ∷ vehicle (line 0 (0x41 ∷ 0x0D ∷ 0x20 ∷ []) ∷ line 0 (0x41 ∷ 0xE0 ∷ 1 ∷ 2 ∷ 3 ∷ []) ∷ line 0 (0x41 ∷ 0x0C ∷ 0x1A ∷ 0xF8 ∷ []) ∷ []) ∷ []
 
 abbrev three_values : List Query → Drive
-three_values qs = drive true [] (script_of qs) (replicate 35 0) ((1 ∷ own_value) ++ (3 ∷ engine_value 0xF8) ++ speed_value ++ own_value) (record { answer = Complete; written = 35 })
+three_values qs = drive true [] (script_of qs) (replicate 35 0) ((1 ∷ own_value) ++ (3 ∷ engine_value 0xF8) ++ speed_value ++ own_value) (record { answer = Ok tt; written = 35 })
 
 crowded_run : Computed (three_values crowded) crowded (ascii "01E0" ∷ ascii "010D" ∷ [])
 unfolding has high is_space raised hex_digit digit j1979 mode01_lengths group_bytes lines_of_list value_format at_kind line_text reply_text canonical
@@ -137,7 +137,7 @@ abbrev level : List Query
 level = own ∷ makers (line 0 (0x41 ∷ 0xE0 ∷ 1 ∷ 2 ∷ 3 ∷ []) ∷ line 0 (0x41 ∷ 0x0D ∷ 0x20 ∷ []) ∷ []) ∷ []
 
 abbrev two_values : List Query → Drive
-two_values qs = drive true [] (script_of qs) (replicate 27 0) ((1 ∷ own_value) ++ (2 ∷ speed_value) ++ own_value) (record { answer = Complete; written = 27 })
+two_values qs = drive true [] (script_of qs) (replicate 27 0) ((1 ∷ own_value) ++ (2 ∷ speed_value) ++ own_value) (record { answer = Ok tt; written = 27 })
 
 longer_run : Computed (two_values longer) longer (ascii "01E0" ∷ ascii "01E0" ∷ [])
 unfolding has high is_space raised hex_digit digit j1979 mode01_lengths group_bytes lines_of_list value_format at_kind line_text reply_text canonical
@@ -172,7 +172,7 @@ two_lengths = (
 
 -- It is asked of the query that ended a run too, for what holds of the run: the part has 17 bytes, and what the vehicle gave takes 12.
 abbrev overrun : Drive
-overrun = drive true [] (script_of longer) (replicate 24 0) ((1 ∷ own_value) ++ replicate 14 0) (record { answer = Refused refusal.SmallBuffer; written = 10 })
+overrun = drive true [] (script_of longer) (replicate 24 0) ((1 ∷ own_value) ++ replicate 14 0) (record { answer = Err refusal.SmallBuffer; written = 10 })
 
 overrun_run : Computed overrun longer (ascii "01E0" ∷ ascii "01E0" ∷ [])
 unfolding has high is_space raised hex_digit digit j1979 mode01_lengths group_bytes lines_of_list value_format at_kind line_text reply_text canonical
@@ -198,10 +198,10 @@ abbrev twice : List Query
 twice = engine 0 0xF8 ∷ engine 0 0xF8 ∷ []
 
 abbrev one_part : Drive
-one_part = drive true [] (script_of once) (replicate 9 0) (1 ∷ engine_value 0xF8) (record { answer = Complete; written = 9 })
+one_part = drive true [] (script_of once) (replicate 9 0) (1 ∷ engine_value 0xF8) (record { answer = Ok tt; written = 9 })
 
 abbrev two_parts : Drive
-two_parts = drive true [] (script_of twice) (replicate 18 0) ((1 ∷ engine_value 0xF8) ++ (1 ∷ engine_value 0xF8)) (record { answer = Complete; written = 18 })
+two_parts = drive true [] (script_of twice) (replicate 18 0) ((1 ∷ engine_value 0xF8) ++ (1 ∷ engine_value 0xF8)) (record { answer = Ok tt; written = 18 })
 
 once_run : Computed one_part once (ascii "010C1" ∷ [])
 unfolding has high is_space raised hex_digit digit j1979 mode01_lengths group_bytes lines_of_list value_format at_kind line_text reply_text canonical
@@ -252,7 +252,7 @@ more_than_stand_before h =
 
 -- A run that wrote nothing.
 abbrev unwritten : Drive
-unwritten = drive true [] (script_of unknown) (replicate 45 0) (replicate 45 0) (record { answer = Complete; written = 0 })
+unwritten = drive true [] (script_of unknown) (replicate 45 0) (replicate 45 0) (record { answer = Ok tt; written = 0 })
 
 contract_broken : GoodAll unwritten × EveryFits unwritten × (Equal first unwritten → ⊥)
 unfolding line_text reply_text hex_digit value_format group_bytes j1979
@@ -269,7 +269,7 @@ abbrev speed : ℕ → List Query
 speed b = vehicle (line 0 (0x41 ∷ 0x0D ∷ b ∷ []) ∷ []) ∷ []
 
 abbrev speed_run : ℕ → Drive
-speed_run b = drive true [] (script_of (speed b)) (replicate 8 0) (1 ∷ speed_value) (record { answer = Complete; written = 8 })
+speed_run b = drive true [] (script_of (speed b)) (replicate 8 0) (1 ∷ speed_value) (record { answer = Ok tt; written = 8 })
 
 speed_run_lem : Computed (speed_run 0x20) (speed 0x20) (ascii "010D" ∷ [])
 unfolding has high is_space raised hex_digit digit j1979 mode01_lengths group_bytes lines_of_list value_format at_kind line_text reply_text canonical
@@ -297,7 +297,7 @@ abbrev loose : List Query
 loose = vehicle (line 0 (0x42 ∷ 0x0D ∷ 0x20 ∷ []) ∷ line 0 (0x41 ∷ []) ∷ line 0 (0x41 ∷ 0x0D ∷ 0x20 ∷ 0x0C ∷ 0x1A ∷ []) ∷ []) ∷ []
 
 abbrev loose_run : Drive
-loose_run = drive true [] (script_of loose) (replicate 15 0) ((2 ∷ 0x0C ∷ 0xE9 ∷ 0x0F ∷ 3 ∷ 0x41 ∷ 0x0C ∷ 0x1A ∷ []) ++ speed_value) (record { answer = Complete; written = 15 })
+loose_run = drive true [] (script_of loose) (replicate 15 0) ((2 ∷ 0x0C ∷ 0xE9 ∷ 0x0F ∷ 3 ∷ 0x41 ∷ 0x0C ∷ 0x1A ∷ []) ++ speed_value) (record { answer = Ok tt; written = 15 })
 
 loose_run_lem : Computed loose_run loose (ascii "010D" ∷ [])
 unfolding has high is_space raised hex_digit digit j1979 mode01_lengths group_bytes lines_of_list value_format at_kind line_text reply_text canonical

@@ -36,7 +36,7 @@ use Rattle.client_session.specs.Finish.{finish_says}
 use Rattle.bench.specs.Script.{Query, query, query_format, script}
 use Rattle.bench.specs.Exchange.{exchanged}
 use Rattle.bench.specs.Deliver.{pieces}
-use Rattle.bench.specs.declared.RunAnswer.TheVariants.{Complete, Refused}
+use Rattle.std.specs.Prelude.{Ok, Err}
 use Rattle.bench.specs.Run.{initialised, part, Run, run_says, run_lent}
 use Rattle.agreement.specs.Vehicle.{SameValues}
 use Rattle.agreement.specs.Lines.{end, next, alone, table, GoodLine, GoodLines}
@@ -88,7 +88,7 @@ unknown_record = (1 ∷ engine_value 0xF8) ++ (1 ∷ engine_value 0xF8) ++ (2 �
 
 -- the first vehicle, with repeat on and pieces of 128 bytes
 abbrev pub first : Drive
-first = drive true [] (script_of unknown) (replicate 45 0) (unknown_record ++ (0 ∷ [])) (record { answer = Complete; written = 44 })
+first = drive true [] (script_of unknown) (replicate 45 0) (unknown_record ++ (0 ∷ [])) (record { answer = Ok tt; written = 44 })
 
 pub first_run : Computed first unknown (ascii "010C1" ∷ ascii "010C1" ∷ ascii "010C0D" ∷ ascii "01E0" ∷ [])
 unfolding has high is_space raised hex_digit digit j1979 mode01_lengths group_bytes lines_of_list value_format at_kind line_text reply_text canonical
@@ -103,7 +103,7 @@ known low = engine 0x7E9 low ∷ engine 0x7E9 0xF8 ∷ speeds 0x7E9 (0x0D ∷ 0x
 abbrev other : ℕ → Drive
 other low =
     drive false (1 ∷ 2 ∷ 0 ∷ 200 ∷ 3 ∷ []) (script_of (known low)) (replicate 44 0)
-    ((1 ∷ engine_value low) ++ (1 ∷ engine_value 0xF8) ++ (2 ∷ engine_value 0xF8) ++ speed_value ++ (1 ∷ own_value)) (record { answer = Complete; written = 44 })
+    ((1 ∷ engine_value low) ++ (1 ∷ engine_value 0xF8) ++ (2 ∷ engine_value 0xF8) ++ speed_value ++ (1 ∷ own_value)) (record { answer = Ok tt; written = 44 })
 
 second_run : Computed (other 0xF8) (known 0xF8) (ascii "010C1" ∷ ascii "010C1" ∷ ascii "010C0D" ∷ ascii "01E0" ∷ [])
 unfolding has high is_space raised hex_digit digit j1979 mode01_lengths group_bytes lines_of_list value_format at_kind line_text reply_text canonical
@@ -119,7 +119,7 @@ third_run = record { ran = record { bytes = low_at (script_of (known 0xF9)) refl
 
 -- the first one's script in a record buffer of 20 bytes: 6 ends the run at the third part
 abbrev pub ended6 : Drive
-ended6 = drive true [] (script_of unknown) (replicate 20 0) ((1 ∷ engine_value 0xF8) ++ (1 ∷ engine_value 0xF8) ++ (0 ∷ 0 ∷ [])) (record { answer = Refused refusal.SmallBuffer; written = 18 })
+ended6 = drive true [] (script_of unknown) (replicate 20 0) ((1 ∷ engine_value 0xF8) ++ (1 ∷ engine_value 0xF8) ++ (0 ∷ 0 ∷ [])) (record { answer = Err refusal.SmallBuffer; written = 18 })
 
 pub ended6_run : Computed ended6 unknown (ascii "010C1" ∷ ascii "010C1" ∷ ascii "010C0D" ∷ [])
 unfolding has high is_space raised hex_digit digit j1979 mode01_lengths group_bytes lines_of_list value_format at_kind line_text reply_text canonical
@@ -132,7 +132,7 @@ abbrev unasked : List Query
 unasked = engine 0 0xF8 ∷ engine 0 0xF8 ∷ speeds 0 (0x0C ∷ 0x1A ∷ 0xF8 ∷ 0x0D ∷ 0x20 ∷ []) ∷ query (0x0C ∷ []) 0 (line 0 (0x7F ∷ 0x01 ∷ 0x12 ∷ []) ∷ []) ∷ []
 
 abbrev last_unasked : Drive
-last_unasked = drive true [] (script_of unasked) (replicate 20 0) ((1 ∷ engine_value 0xF8) ++ (1 ∷ engine_value 0xF8) ++ (0 ∷ 0 ∷ [])) (record { answer = Refused refusal.SmallBuffer; written = 18 })
+last_unasked = drive true [] (script_of unasked) (replicate 20 0) ((1 ∷ engine_value 0xF8) ++ (1 ∷ engine_value 0xF8) ++ (0 ∷ 0 ∷ [])) (record { answer = Err refusal.SmallBuffer; written = 18 })
 
 unasked_run : Computed last_unasked unasked (ascii "010C1" ∷ ascii "010C1" ∷ ascii "010C0D" ∷ [])
 unfolding has high is_space raised hex_digit digit j1979 mode01_lengths group_bytes lines_of_list value_format at_kind line_text reply_text canonical
@@ -148,7 +148,7 @@ abbrev long : List Query
 long = let l = long_line in engine 0 0xF8 ∷ query (0xE1 ∷ []) 0 (l ∷ l ∷ l ∷ l ∷ l ∷ l ∷ l ∷ l ∷ []) ∷ engine 0 0xF8 ∷ []
 
 abbrev pub ended8 : Drive
-ended8 = drive true [] (script_of long) (replicate 10 0) ((1 ∷ engine_value 0xF8) ++ (0 ∷ [])) (record { answer = Refused refusal.ReplyTooLong; written = 9 })
+ended8 = drive true [] (script_of long) (replicate 10 0) ((1 ∷ engine_value 0xF8) ++ (0 ∷ [])) (record { answer = Err refusal.ReplyTooLong; written = 9 })
 
 -- ---- the premises
 
@@ -263,7 +263,7 @@ abbrev both : List Line → List Query
 both ls = query (0x0D ∷ 0x0C ∷ []) 0 ls ∷ []
 
 abbrev both_run : List Line → List ℕ → Drive
-both_run ls values = drive true [] (script_of (both ls)) (replicate 31 0) (4 ∷ values) (record { answer = Complete; written = 31 })
+both_run ls values = drive true [] (script_of (both ls)) (replicate 31 0) (4 ∷ values) (record { answer = Ok tt; written = 31 })
 
 -- both PIDs on a line: of 7E9, and of 7E8
 abbrev of_7e9 : Line
@@ -381,7 +381,7 @@ silent ecu ls = vehicle [] ∷ engine ecu 0xF8 ∷ vehicle [] ∷ vehicle ls ∷
 
 -- with repeat on
 abbrev silent_run : Drive
-silent_run = drive true [] (script_of (silent 0 [])) (replicate 20 0) ((0 ∷ 1 ∷ engine_value 0xF8) ++ (0 ∷ 0 ∷ 1 ∷ speed_value)) (record { answer = Complete; written = 20 })
+silent_run = drive true [] (script_of (silent 0 [])) (replicate 20 0) ((0 ∷ 1 ∷ engine_value 0xF8) ++ (0 ∷ 0 ∷ 1 ∷ speed_value)) (record { answer = Ok tt; written = 20 })
 
 silent_run_lem : Computed silent_run (silent 0 []) (ascii "010D" ∷ ascii "010C1" ∷ ascii "010D" ∷ ascii "010D" ∷ ascii "010D" ∷ [])
 unfolding has high is_space raised hex_digit digit j1979 mode01_lengths group_bytes lines_of_list value_format at_kind line_text reply_text canonical
@@ -393,7 +393,7 @@ silent_run_lem = record { ran = record { bytes = low_at silent_run.script_bytes 
 abbrev silent_off : Drive
 silent_off =
     drive false (1 ∷ 2 ∷ 0 ∷ 200 ∷ 3 ∷ []) (script_of (silent 0x7E9 [])) (replicate 21 0) ((0 ∷ 1 ∷ engine_value 0xF8) ++ (0 ∷ 0 ∷ 1 ∷ speed_value) ++ (0 ∷ []))
-    (record { answer = Complete; written = 20 })
+    (record { answer = Ok tt; written = 20 })
 
 silent_off_run : Computed silent_off (silent 0x7E9 []) (ascii "010D" ∷ ascii "010C1" ∷ ascii "010D" ∷ ascii "010D" ∷ ascii "010D" ∷ [])
 unfolding has high is_space raised hex_digit digit j1979 mode01_lengths group_bytes lines_of_list value_format at_kind line_text reply_text canonical
@@ -405,7 +405,7 @@ silent_off_run = record { ran = record { bytes = low_at silent_off.script_bytes 
 abbrev spoken : Drive
 spoken =
     drive true [] (script_of (silent 0 (speed_line 0 0x20 ∷ []))) (replicate 27 0) ((0 ∷ 1 ∷ engine_value 0xF8) ++ (0 ∷ 1 ∷ speed_value) ++ (1 ∷ speed_value))
-    (record { answer = Complete; written = 27 })
+    (record { answer = Ok tt; written = 27 })
 
 spoken_run : Computed spoken (silent 0 (speed_line 0 0x20 ∷ [])) (ascii "010D" ∷ ascii "010C1" ∷ ascii "010D" ∷ ascii "010D" ∷ ascii "010D" ∷ [])
 unfolding has high is_space raised hex_digit digit j1979 mode01_lengths group_bytes lines_of_list value_format at_kind line_text reply_text canonical
@@ -437,7 +437,7 @@ silent-other h =
 
 -- two such queries in a record of one byte: 6 comes at the second part, `00`, and what stands agrees with the longer run
 abbrev silent_full : Drive
-silent_full = drive true [] (script_of (vehicle [] ∷ vehicle [] ∷ [])) (0 ∷ []) (0 ∷ []) (record { answer = Refused refusal.SmallBuffer; written = 1 })
+silent_full = drive true [] (script_of (vehicle [] ∷ vehicle [] ∷ [])) (0 ∷ []) (0 ∷ []) (record { answer = Err refusal.SmallBuffer; written = 1 })
 
 silent_full_run : Computed silent_full (vehicle [] ∷ vehicle [] ∷ []) (ascii "010D" ∷ ascii "010D" ∷ [])
 unfolding has high is_space raised hex_digit digit j1979 mode01_lengths group_bytes lines_of_list value_format at_kind line_text reply_text canonical
