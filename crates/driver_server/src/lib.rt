@@ -46,17 +46,13 @@ fn phase_code(phase: Phase) -> u8
 fn put_last(state: ClientState, log: &mut [u8], at: usize) -> usize
     ensures { Put log.old at (text_entry (settings state).last) result log.new }
 {
-    let last = state.last_obd_command;
-    let size = state.last_size();
-    driver_log::put_text(log, at, &last[..size])
+    driver_log::put_text(log, at, &state.last_obd_command[..state.last_size()])
 }
 
 fn put_line(server: ServerSession, log: &mut [u8], at: usize) -> usize
     ensures { Put log.old at (text_entry (session server).line) result log.new }
 {
-    let line = server.line;
-    let size = server.command_size();
-    driver_log::put_text(log, at, &line[..size])
+    driver_log::put_text(log, at, &server.line[..server.command_size()])
 }
 
 // The entry of a session's state: the four settings, the phase, the last command, and the line as far as it is read or the command handed out.
@@ -94,7 +90,13 @@ fn call(turn: ServerTurn, kind: u8, arg: &[u8], out: &mut [u8], log: &mut [u8]) 
     let server = turn.session;
     let at = turn.at;
     match kind {
-        1 => logged(server.byte(driver_log::byte_of(arg, 0), out), 0, out, log, at),
+        1 => logged(
+            server.byte(driver_log::byte_of(arg, 0), out),
+            0,
+            out,
+            log,
+            at,
+        ),
         2 => {
             let step = server.bytes(arg, out);
             logged(step, step.taken, out, log, at)

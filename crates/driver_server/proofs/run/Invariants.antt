@@ -2,9 +2,8 @@
 use mathlib.Core.Path.{◌≡◌}
 use Prim.Native.Nat.{◌-◌, ◌≤◌}
 use lib.ListN.{length, drop}
-use Rattle.server_session.specs.Session.{session}
 use Rattle.driver_log.specs.Script.{calls}
-use Rattle.driver_server.specs.Server.{server_call, server_at, server_turn}
+use Rattle.driver_server.specs.Server.{server_call, server_turn}
 use Rattle.driver_server.proofs.run.Given as goal
 
 abbrev pub invariant-loop-from : goal.invariant-loop-from
