@@ -131,8 +131,11 @@ client_call t kind arg =
     (cond (eqb kind 5) (finish_noted t (client_lent (finish_says room c t.store) out))
     (cond (eqb kind 11) (host_writes t arg) (rare_call t kind arg))))))
 
+abbrev pub session_turn : ClientTurn → List ℕ → List ℕ → Turn Client
+session_turn r out log = record { session = client r.session; at = r.at; out = out; log = log }
+
 abbrev pub client_turn : ClientTurn → List ℕ → List ℕ → List ℕ → Stored
-client_turn r store out log = record { turn = record { session = client r.session; at = r.at; out = out; log = log }; store = store }
+client_turn r store out log = record { turn = session_turn r out log; store = store }
 
 abbrev pub client_at : Client → ℕ → List ℕ → List ℕ → List ℕ → Stored
 client_at c at store out log = record { turn = record { session = c; at = at; out = out; log = log }; store = store }

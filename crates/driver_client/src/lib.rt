@@ -7,12 +7,14 @@ ghost use Rattle.wire.specs.Answer.{number, number_of};
 ghost use Rattle.query.specs.Query.{count_of};
 ghost use Rattle.client_session.specs.Session.{client, fresh_client};
 ghost use Rattle.client_session.specs.Call.{client_answer, refusal_of};
-ghost use Rattle.driver_log.specs.Log.{text_entry};
+ghost use Rattle.driver_log.specs.Log.{text_entry, answered};
 ghost use Rattle.driver_log.specs.Script.{calls, rounds};
 ghost use Rattle.driver_client.specs.Client.{start_code, step_code, count_entry, support_code, command_code, under_code, length_number, pids_entry};
-ghost use Rattle.driver_client.specs.Client.{state_entry, count_given, rare_call, client_call, client_turn, client_at, client_run, stored_of, stored_as};
+ghost use Rattle.driver_client.specs.Client.{state_entry, count_given, client_call, session_turn, client_turn, client_at, client_run, stored_of, stored_as};
 
-use client_session::{ClientAnswer, ClientError, ClientSession, Command, Failure, Under};
+use client_session::{
+    ClientAnswer, ClientError, ClientSession, ClientStep, Command, Failure, Under,
+};
 use server_state::{FeatureSupport, ServerState};
 use wire::Refusal;
 
@@ -119,10 +121,10 @@ fn count_given(arg: &[u8]) -> Option<u8>
 fn after_first(arg: &[u8]) -> &[u8]
     ensures { result.now ≡ drop 1 arg.now }
 {
-    if arg.is_empty() {
-        return arg;
+    match arg {
+        [_, rest @ ..] => rest,
+        [] => arg,
     }
-    &arg[1..]
 }
 
 // What is known of each PID in a list.
@@ -141,9 +143,7 @@ fn put_last(session: ClientSession, log: &mut [u8], at: usize) -> usize
     ensures { Put log.old at (text_entry (client session).last) result log.new }
 {
     let last = session.last;
-    let bytes = last.bytes;
-    let size = wire::at_most(last.len, 18);
-    driver_log::put_text(log, at, &bytes[..size])
+    driver_log::put_text(log, at, &last.bytes[..last.len.min(18)])
 }
 
 // The entry of a session's state: framing, repeat, multi-PID support, what is under way, the last query, and what is known of the PIDs in the argument.
@@ -166,57 +166,91 @@ fn put_state(session: ClientSession, arg: &[u8], log: &mut [u8], at: usize) -> u
 fn put_reply(session: ClientSession, store: &[u8], log: &mut [u8], at: usize) -> usize
     ensures { Put log.old at (text_entry (take (client session).got store.now)) result log.new }
 {
-    let size = wire::at_most(session.pending.got, store.len());
+    let size = session.pending.got.min(store.len());
     driver_log::put_text(log, at, &store[..size])
 }
 
-// A call that is made more rarely.
-fn rare(
-    session: ClientSession,
-    kind: u8,
-    arg: &[u8],
-    store: &[u8],
-    out: &mut [u8],
+// What a step comes to: its entry is logged, with a code and a count.
+fn logged(
+    step: ClientStep,
+    code: u8,
+    count: usize,
+    out: &[u8],
     log: &mut [u8],
     at: usize,
 ) -> ClientTurn
-    ensures { client_turn result store.now out.new log.new ≡
-        rare_call (client_at (client session) at store.now out.old log.old) kind arg.now }
+    ensures { session_turn result out.now log.new ≡ answered at log.old code count step.written (client step.session) out.now }
 {
+    ClientTurn {
+        session: step.session,
+        at: driver_log::put_call(log, at, code, count, out, step.written),
+    }
+}
+
+// The same of a start.
+fn started(step: ClientStep, out: &[u8], log: &mut [u8], at: usize) -> ClientTurn
+    ensures { session_turn result out.now log.new ≡
+        answered at log.old (start_code (client_answer step.answer)) 0 step.written (client step.session) out.now }
+{
+    logged(step, start_code(step.answer), 0, out, log, at)
+}
+
+// The same of a piece or a failure.
+fn stepped(step: ClientStep, out: &[u8], log: &mut [u8], at: usize) -> ClientTurn
+    ensures { session_turn result out.now log.new ≡
+        answered at log.old (step_code (client_answer step.answer)) 0 step.written (client step.session) out.now }
+{
+    logged(step, step_code(step.answer), 0, out, log, at)
+}
+
+// A call by its kind.
+fn call(
+    turn: ClientTurn,
+    kind: u8,
+    arg: &[u8],
+    store: &mut [u8],
+    out: &mut [u8],
+    log: &mut [u8],
+) -> ClientTurn
+    ensures { client_turn result store.new out.new log.new ≡
+        client_call (client_turn turn store.old out.old log.old) kind arg.now }
+{
+    let session = turn.session;
+    let at = turn.at;
     match kind {
-        6 => {
-            let step = session.init(out);
-            ClientTurn {
-                session: step.session,
-                at: driver_log::put_call(log, at, start_code(step.answer), 0, out, step.written),
-            }
+        1 => started(session.command(arg, out), out, log, at),
+        2 => {
+            let pid = driver_log::byte_of(arg, 0);
+            started(session.query_pid(pid, count_given(arg), out), out, log, at)
         }
+        3 => started(session.query_pids(arg, None, out), out, log, at),
+        4 => stepped(session.piece(arg, store, out), out, log, at),
+        5 => {
+            let step = session.finish(store, out);
+            let count = value_count(step.answer);
+            logged(step, step_code(step.answer), count, out, log, at)
+        }
+        6 => started(session.init(out), out, log, at),
         7 => {
             let count = Some(driver_log::byte_of(arg, 0));
-            let step = session.query_pids(after_first(arg), count, out);
-            ClientTurn {
-                session: step.session,
-                at: driver_log::put_call(log, at, start_code(step.answer), 0, out, step.written),
-            }
+            started(
+                session.query_pids(after_first(arg), count, out),
+                out,
+                log,
+                at,
+            )
         }
-        8 => {
-            let step = session.failure(Failure::Read, out);
-            ClientTurn {
-                session: step.session,
-                at: driver_log::put_call(log, at, step_code(step.answer), 0, out, step.written),
-            }
-        }
-        9 => {
-            let step = session.failure(Failure::Write, out);
-            ClientTurn {
-                session: step.session,
-                at: driver_log::put_call(log, at, step_code(step.answer), 0, out, step.written),
-            }
-        }
+        8 => stepped(session.failure(Failure::Read, out), out, log, at),
+        9 => stepped(session.failure(Failure::Write, out), out, log, at),
         10 => ClientTurn {
             session,
             at: put_reply(session, store, log, at),
         },
+        // The host writes to its store between two calls.
+        11 => {
+            wire::put(store, 0, arg);
+            turn
+        }
         _ => ClientTurn {
             session,
             at: put_state(session, arg, log, at),
@@ -235,64 +269,15 @@ fn run(
     ensures { client_turn result store.new out.new log.new ≡
         calls client_call (client_at (client session) 0 store.old out.old log.old) script.now }
 {
-    let mut session = session;
+    let mut turn = ClientTurn { session, at: 0 };
     let mut from: usize = 0;
-    let mut at: usize = 0;
     while 3 <= script.len() - from {
         let start = from + 3;
         let end = start + driver_log::argument_size(script, from);
-        let kind = script[from];
+        turn = call(turn, script[from], &script[start..end], store, out, log);
         from = end;
-        match kind {
-            1 => {
-                let step = session.command(&script[start..end], out);
-                session = step.session;
-                at = driver_log::put_call(log, at, start_code(step.answer), 0, out, step.written);
-            }
-            2 => {
-                let count = count_given(&script[start..end]);
-                let step = session.query_pid(
-                    driver_log::byte_of(&script[start..end], 0),
-                    count,
-                    out,
-                );
-                session = step.session;
-                at = driver_log::put_call(log, at, start_code(step.answer), 0, out, step.written);
-            }
-            3 => {
-                let step = session.query_pids(&script[start..end], None, out);
-                session = step.session;
-                at = driver_log::put_call(log, at, start_code(step.answer), 0, out, step.written);
-            }
-            4 => {
-                let step = session.piece(&script[start..end], store, out);
-                session = step.session;
-                at = driver_log::put_call(log, at, step_code(step.answer), 0, out, step.written);
-            }
-            5 => {
-                let step = session.finish(store, out);
-                session = step.session;
-                at = driver_log::put_call(
-                    log,
-                    at,
-                    step_code(step.answer),
-                    value_count(step.answer),
-                    out,
-                    step.written,
-                );
-            }
-            // The host writes to its store between two calls.
-            11 => {
-                wire::put(store, 0, &script[start..end]);
-            }
-            _ => {
-                let turn = rare(session, kind, &script[start..end], store, out, log, at);
-                session = turn.session;
-                at = turn.at;
-            }
-        }
     }
-    ClientTurn { session, at }
+    turn
 }
 
 // A script on a client session that asks for CAN headers and repeats queries as told, and then another one for so many rounds. Each round goes on with the session that

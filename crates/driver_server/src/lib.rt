@@ -6,12 +6,12 @@ ghost use Rattle.wire.specs.Put.{Put};
 ghost use Rattle.client_state.specs.Settings.{settings};
 ghost use Rattle.server_session.specs.Session.{session, fresh_session};
 ghost use Rattle.server_session.specs.Call.{server_answer};
-ghost use Rattle.driver_log.specs.Log.{text_entry, logged_of, logged_as};
+ghost use Rattle.driver_log.specs.Log.{text_entry, answered, logged_of, logged_as};
 ghost use Rattle.driver_log.specs.Script.{calls, rounds};
-ghost use Rattle.driver_server.specs.Server.{answer_code, phase_code, server_entry, rare_server_call, server_call, server_turn, server_at, server_run};
+ghost use Rattle.driver_server.specs.Server.{answer_code, phase_code, server_entry, server_call, server_turn, server_at, server_run};
 
 use client_state::ClientState;
-use server_session::{Phase, ServerSession};
+use server_session::{Phase, ServerSession, ServerStep};
 use wire::Refusal;
 
 // A session after some calls of a script, and the position in the log after their entries.
@@ -46,17 +46,13 @@ fn phase_code(phase: Phase) -> u8
 fn put_last(state: ClientState, log: &mut [u8], at: usize) -> usize
     ensures { Put log.old at (text_entry (settings state).last) result log.new }
 {
-    let last = state.last_obd_command;
-    let size = state.last_size();
-    driver_log::put_text(log, at, &last[..size])
+    driver_log::put_text(log, at, &state.last_obd_command[..state.last_size()])
 }
 
 fn put_line(server: ServerSession, log: &mut [u8], at: usize) -> usize
     ensures { Put log.old at (text_entry (session server).line) result log.new }
 {
-    let line = server.line;
-    let size = server.command_size();
-    driver_log::put_text(log, at, &line[..size])
+    driver_log::put_text(log, at, &server.line[..server.command_size()])
 }
 
 // The entry of a session's state: the four settings, the phase, the last command, and the line as far as it is read or the command handed out.
@@ -76,32 +72,39 @@ fn put_state(server: ServerSession, log: &mut [u8], at: usize) -> usize
     put_line(server, log, at)
 }
 
-// A call that is made more rarely.
-fn rare(
-    server: ServerSession,
-    kind: u8,
-    arg: &[u8],
-    out: &mut [u8],
-    log: &mut [u8],
-    at: usize,
-) -> ServerTurn
-    ensures { server_turn result out.new log.new ≡ rare_server_call (server_at (session server) at out.old log.old) kind arg.now }
+// What a step comes to: its entry is logged, with so many bytes taken.
+fn logged(step: ServerStep, taken: usize, out: &[u8], log: &mut [u8], at: usize) -> ServerTurn
+    ensures { server_turn result out.now log.new ≡
+        answered at log.old (answer_code (server_answer step.answer)) taken step.written (session step.session) out.now }
 {
+    ServerTurn {
+        session: step.session,
+        at: driver_log::put_call(log, at, answer_code(step.answer), taken, out, step.written),
+    }
+}
+
+// A call by its kind.
+fn call(turn: ServerTurn, kind: u8, arg: &[u8], out: &mut [u8], log: &mut [u8]) -> ServerTurn
+    ensures { server_turn result out.new log.new ≡ server_call (server_turn turn out.old log.old) kind arg.now }
+{
+    let server = turn.session;
+    let at = turn.at;
     match kind {
-        5 => {
-            let step = server.reject(arg, out);
-            ServerTurn {
-                session: step.session,
-                at: driver_log::put_call(log, at, answer_code(step.answer), 0, out, step.written),
-            }
+        1 => logged(
+            server.byte(driver_log::byte_of(arg, 0), out),
+            0,
+            out,
+            log,
+            at,
+        ),
+        2 => {
+            let step = server.bytes(arg, out);
+            logged(step, step.taken, out, log, at)
         }
-        6 => {
-            let step = server.answer(arg, b"ELM327", out);
-            ServerTurn {
-                session: step.session,
-                at: driver_log::put_call(log, at, answer_code(step.answer), 0, out, step.written),
-            }
-        }
+        3 => logged(server.reply(arg, out), 0, out, log, at),
+        4 => logged(server.answer(b"ELM327 v1.5", arg, out), 0, out, log, at),
+        5 => logged(server.reject(arg, out), 0, out, log, at),
+        6 => logged(server.answer(arg, b"ELM327", out), 0, out, log, at),
         _ => ServerTurn {
             session: server,
             at: put_state(server, log, at),
@@ -113,53 +116,18 @@ fn rare(
 fn run(server: ServerSession, script: &[u8], out: &mut [u8], log: &mut [u8]) -> ServerTurn
     ensures { server_turn result out.new log.new ≡ calls server_call (server_at (session server) 0 out.old log.old) script.now }
 {
-    let mut server = server;
+    let mut turn = ServerTurn {
+        session: server,
+        at: 0,
+    };
     let mut from: usize = 0;
-    let mut at: usize = 0;
     while 3 <= script.len() - from {
         let start = from + 3;
         let end = start + driver_log::argument_size(script, from);
-        let kind = script[from];
+        turn = call(turn, script[from], &script[start..end], out, log);
         from = end;
-        match kind {
-            1 => {
-                let step = server.byte(driver_log::byte_of(&script[start..end], 0), out);
-                server = step.session;
-                at = driver_log::put_call(log, at, answer_code(step.answer), 0, out, step.written);
-            }
-            2 => {
-                let step = server.bytes(&script[start..end], out);
-                server = step.session;
-                at = driver_log::put_call(
-                    log,
-                    at,
-                    answer_code(step.answer),
-                    step.taken,
-                    out,
-                    step.written,
-                );
-            }
-            3 => {
-                let step = server.reply(&script[start..end], out);
-                server = step.session;
-                at = driver_log::put_call(log, at, answer_code(step.answer), 0, out, step.written);
-            }
-            4 => {
-                let step = server.answer(b"ELM327 v1.5", &script[start..end], out);
-                server = step.session;
-                at = driver_log::put_call(log, at, answer_code(step.answer), 0, out, step.written);
-            }
-            _ => {
-                let turn = rare(server, kind, &script[start..end], out, log, at);
-                server = turn.session;
-                at = turn.at;
-            }
-        }
     }
-    ServerTurn {
-        session: server,
-        at,
-    }
+    turn
 }
 
 // A script on a server session, and then another one for so many rounds. Each round goes on with the session that the one before it left; the script and each round

@@ -42,7 +42,7 @@ fn main(rt: HostRuntime) {
     while at + 3 <= n {
         let room = room_of(input[at]);
         let start = at + 3;
-        let end = wire::at_most(start + length_of(input[at + 1], input[at + 2]), n);
+        let end = n.min(start + length_of(input[at + 1], input[at + 2]));
         print_case(&input[start..end], &mut record, room, &mut to);
         at = end;
     }

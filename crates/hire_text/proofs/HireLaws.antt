@@ -7,8 +7,8 @@ use native.Mathlib.Omega.{arith}
 use lib.ListN.{length, take, length-append}
 use lib.Seq.{sets, length-sets, take_all}
 use Rattle.wire.specs.declared.Refusal.TheVariants.{SmallBuffer}
-use Rattle.wire.specs.declared.Count.{Count}
-use Rattle.wire.specs.declared.Count.TheVariants.{Is, Refused}
+use Rattle.std.specs.Prelude.{Result, Ok, Err}
+use Rattle.wire.specs.declared.Refusal.{Refusal}
 use Rattle.wire.specs.Put.{Put, Written, count_written, put_whole}
 use Rattle.wire.specs.Text.{joined}
 use Rattle.wire.proofs.PutLaws.{put_then, put_front, put_whole_lem, whole_small, whole-stored, whole_told, whole_length}
@@ -64,10 +64,10 @@ module _ (s buffer left : List ℕ) (r : BenchRun) (e : recorded r left ≡ run_
     stop_line_lem = put_front p ∙ take_all (length line₀) stop (omega (arith, stop_length (run_answer r.answer)))
 
     -- there is no room for it, or for the lines before it
-    pub no_room : (out : List ℕ) → length out < size → count_written (Refused SmallBuffer) out ≡ put_whole out 0 (text_of_record (length buffer) s)
+    pub no_room : (out : List ℕ) → length out < size → count_written (Err SmallBuffer) out ≡ put_whole out 0 (text_of_record (length buffer) s)
     no_room out h = whole_small out 0 (text_of_record (length buffer) s) (omega (arith, text_size, whole-line))
 
-    pub too_few : (out : List ℕ) → size ≤ length out → (length out - size) / 3 < r.written → count_written (Refused SmallBuffer) out ≡ put_whole out 0 (text_of_record (length buffer) s)
+    pub too_few : (out : List ℕ) → size ≤ length out → (length out - size) / 3 < r.written → count_written (Err SmallBuffer) out ≡ put_whole out 0 (text_of_record (length buffer) s)
     too_few out h k = whole_small out 0 (text_of_record (length buffer) s) (omega (arith, text_size, whole-line))
 
     -- the lines of whatever parts the record's bytes are, and this line after them
@@ -79,13 +79,13 @@ module _ (s buffer left : List ℕ) (r : BenchRun) (e : recorded r left ≡ run_
     text_put lines q = rw (← says) (put_then (lines parts (run_parts true [] (length buffer) s) parts_stand) (rw stop_line_lem at q))
 
     pub all_written : {out out₁ out₂ : List ℕ} {n m : ℕ} → size ≤ length out → r.written ≤ (length out - size) / 3 → Lines out n out₁ →
-        Put out₁ n (take size line) m out₂ → count_written (Is m) out₂ ≡ put_whole out 0 (text_of_record (length buffer) s)
+        Put out₁ n (take size line) m out₂ → count_written (Ok m) out₂ ≡ put_whole out 0 (text_of_record (length buffer) s)
     all_written h k lines q = whole-stored (omega arith) (omega (arith, text_size, whole-line)) (text_put lines q)
 
 -- what a text that was written tells the caller: it is inside the buffer, whose length is as it was
-pub text_inside : (out left text : List ℕ) {r : Count} {m : ℕ} → count_written r left ≡ put_whole out 0 text → r ≡ Is m → (m ≤ length left) × (length left ≡ length out)
+pub text_inside : (out left text : List ℕ) {r : Result ℕ Refusal} {m : ℕ} → count_written r left ≡ put_whole out 0 text → r ≡ Ok m → (m ≤ length left) × (length left ≡ length out)
 text_inside out left text {r} {m} e d =
-    let q : count_written (Is m) left ≡ put_whole out 0 text = rw d at e in
+    let q : count_written (Ok m) left ≡ put_whole out 0 text = rw d at e in
     let told = whole_told out 0 text (sym (ap (λ (w : Written). w.answer) q)) in
     let same : length left ≡ length out = ap (λ (w : Written). length w.out) q ∙ whole_length out 0 text in
     (omega (arith, told.0, told.1), same)

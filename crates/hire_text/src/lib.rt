@@ -28,11 +28,9 @@ fn put_hex_line(out: &mut [u8], at: usize, bytes: &[u8]) -> usize
     ensures { Put out.old at (hex_line bytes.now) result out.new }
 {
     let mut at = at;
-    let mut i: usize = 0;
-    while i < bytes.len() {
+    for i in 0..bytes.len() {
         at = hex_text::put_hex_byte(out, at, bytes[i]);
-        i += 1;
-        at = wire::put_byte(out, at, separator(bytes, i));
+        at = wire::put_byte(out, at, separator(bytes, i + 1));
     }
     at
 }
@@ -47,10 +45,11 @@ fn part_end(bytes: &[u8], at: usize) -> usize
     };
     let mut cursor = ValueCursor { at: values.next };
     for _ in 0..values.value {
-        let Ok(Some(value)) = cursor.step(bytes) else {
-            return bytes.len();
-        };
-        cursor = value.next;
+        match cursor.step(bytes) {
+            Ok(Some(value)) => cursor = value.next,
+            Ok(None) => return bytes.len(),
+            Err(_) => return bytes.len(),
+        }
     }
     cursor.at
 }

@@ -69,7 +69,7 @@ fn skip(list: &[u8], at: usize, n: usize) -> usize
     requires { at ≤ length list.now }
     ensures { (at ≤ result) × (result ≤ length list.now) }
 {
-    at + wire::at_most(n, list.len() - at)
+    at + n.min(list.len() - at)
 }
 
 fn number(low: u8, high: u8) -> usize {
@@ -104,7 +104,7 @@ fn run_bench(
     out: &mut [u8],
     log: &mut [u8],
 ) -> usize {
-    let size = wire::at_most(room, out.len());
+    let size = room.min(out.len());
     driver::driver_bench(repeat, script, pieces, &mut out[..size], log)
 }
 
@@ -166,7 +166,7 @@ fn replay(
         out,
         log,
     );
-    let size = wire::at_most(written, log.len());
+    let size = written.min(log.len());
     judge(&log[..size], &list[entry.stored..entry.next])
 }
 

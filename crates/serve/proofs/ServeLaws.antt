@@ -1,15 +1,13 @@
 -- Laws of the program: it deals with a byte at least in each turn, whatever the reader sends, and what it sends for a command.
-use mathlib.Core.Path.{◌≡◌, refl, sym, ap, ◌∙◌}
+use mathlib.Core.Path.{◌≡◌, refl, ap}
 use mathlib.Core.Bool.{◌&&◌, not}
 use mathlib.Core.List.{List, [], ◌∷◌}
 use Prim.Native.Nat.{ℕ, ◌+◌, ◌-◌, ◌≤◌, ◌<◌}
 use native.Mathlib.Omega.{arith}
 use lib.Dec.{eqb, leb}
 use lib.ListN.{length}
-use borrow.Author.Tests.{eqb-true, eqb-false, ne_eqb, le-ltb}
-use Rattle.std.specs.Prelude.{Result, Err}
-use Rattle.wire.specs.Answer.{Answer, result, refused, number, unless}
-use Rattle.wire.specs.declared.Refusal.{Refusal}
+use borrow.Author.Tests.{eqb-true, eqb-false, le-ltb}
+use Rattle.wire.specs.Answer.{Answer, result, refused, unless}
 use Rattle.wire.specs.Text.{ascii}
 use Rattle.wire.proofs.Cases.{by_test}
 use Rattle.line_list.specs.Lines.{lines_bytes}
@@ -18,7 +16,6 @@ use Rattle.server_session.specs.declared.Phase.TheVariants.{Reading, AtCommand, 
 use Rattle.server_session.specs.declared.ServerStep.{ServerStep}
 use Rattle.server_session.specs.Session.{Session, is_reading}
 use Rattle.server_session.specs.Call.{ServerSaid, ServerServed, server_answer, server_step, server_lent}
-use Rattle.server_session.specs.Replies.{answer_says, reply_says}
 use Rattle.server_session.specs.Bytes.{canonical, byte_taken, byte_says, goes_on, bytes_say}
 use Rattle.server_session.proofs.ByteLaws.{byte_by, taken_cr, taken_lf, taken_plain, end_result}
 use Rattle.server_session.proofs.BytesLaws.{bytes_on, bytes_stop}

@@ -1,19 +1,18 @@
-use mathlib.Core.Path.{ap, ◌∙◌}
-use native.Mathlib.Omega.{arith}
-use Rattle.wire.proofs.PutLaws.{put_then, put_length}
+use mathlib.Core.Path.{refl, ap, ◌∙◌}
+use mathlib.Core.List.{◌++◌}
+use Rattle.wire.proofs.PutLaws.{put_more, put_then}
+use Rattle.pid.specs.Lengths.{length_in}
+use Rattle.server_state.specs.State.{count_in}
 use Rattle.driver_log.proofs.LogLaws.{put_as}
 use Rattle.driver_log.specs.Log.{number_bytes}
-use Rattle.driver_client.specs.Client.{length_number}
-use Rattle.driver_client.proofs.EntryLaws.{pids_turn}
+use Rattle.driver_client.specs.Client.{length_number, pids_entry}
 use Rattle.driver_client.proofs.put_pids.Goals as goal
 
-pub loop-i-preserved : goal.loop-i-preserved
-loop-i-preserved c =
-    let server = c.args.server in
-    let q =
-    put_then (put_as (ap number_bytes (c.length_number.ensures ∙ ap length_number c.data_length.ensures)) c.put_number-at.ensures)
-    (put_as (ap number_bytes (c.count_number.ensures ∙ c.ecu_count.ensures)) c.put_number-at-in-loop-i.ensures) in (
-      omega arith,
-      put_length q ∙ c.loop-i.invariant.1,
-      pids_turn server.pid_lengths server.ecu_counts c.args.pids.now c.loop-i.i c.loop-i-test.true c.loop-i.invariant.2 q,
-    )
+pub loop-pid-preserved : goal.loop-pid-preserved
+loop-pid-preserved c =
+    let lengths = c.args.server.pid_lengths in
+    let counts = c.args.server.ecu_counts in
+    put_more (λ p. number_bytes (length_number (length_in lengths p)) ++ number_bytes (count_in counts p)) (pids_entry lengths counts) refl (λ p s. refl)
+    c.args.pids.now c.loop-pid.pid-index c.loop-pid-test.true c.loop-pid.invariant
+    (put_then (put_as (ap number_bytes (c.length_number.ensures ∙ ap length_number c.data_length.ensures)) c.put_number-at.ensures)
+    (put_as (ap number_bytes (c.count_number.ensures ∙ c.ecu_count.ensures)) c.put_number-at-in-loop-pid.ensures))

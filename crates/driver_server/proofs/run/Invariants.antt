@@ -2,15 +2,13 @@
 use mathlib.Core.Path.{◌≡◌}
 use Prim.Native.Nat.{◌-◌, ◌≤◌}
 use lib.ListN.{length, drop}
-use Rattle.server_session.specs.Session.{session}
 use Rattle.driver_log.specs.Script.{calls}
-use Rattle.driver_server.specs.Server.{server_call, server_at}
+use Rattle.driver_server.specs.Server.{server_call, server_turn}
 use Rattle.driver_server.proofs.run.Given as goal
 
 abbrev pub invariant-loop-from : goal.invariant-loop-from
-invariant-loop-from l = (l.from ≤ length l.script) × (length l.out ≡ length l.initial.out) × (length l.log ≡ length l.initial.log) ×
-    (calls server_call (server_at (session l.server) l.at l.out l.log) (drop l.from l.script) ≡
-    calls server_call (server_at (session l.initial.server) 0 l.initial.out l.initial.log) l.script)
+invariant-loop-from l = (l.from ≤ length l.script) ×
+    (calls server_call (server_turn l.turn l.out l.log) (drop l.from l.script) ≡ calls server_call (server_turn l.initial.turn l.initial.out l.initial.log) l.script)
 
 abbrev pub decreases-loop-from : goal.decreases-loop-from
 decreases-loop-from l = length l.script - l.from

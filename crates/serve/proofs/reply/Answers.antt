@@ -15,7 +15,7 @@ use Rattle.serve.proofs.reply.Goals as goal
 pub returns : goal.returns
 returns c =
     let server = c.args.server in
-    let command : take c.command_size-size.result server.line ≡ (session server).line =
-    ap (λ n. take n server.line) c.command_size-size.ensures ∙ take_cut server.turn.len server.line in
+    let command : take c.command_size.result server.line ≡ (session server).line =
+    ap (λ n. take n server.line) c.command_size.ensures ∙ take_cut server.turn.len server.line in
     let lines = put_front c.put_lines-n.ensures ∙ take_all 80 _ (vehicle_size _) ∙ ap (λ c. lines_bytes (vehicle c)) command in
     c.reply.ensures.out_after ∙ ap (λ l. server_lent (reply_says (length c.args.out.now) (session server) l) c.args.out.now) lines
