@@ -20,7 +20,7 @@ use Rattle.client_session.specs.Start.{init_says, command_says, query_says}
 use Rattle.client_session.specs.Piece.{piece_says, store_after, failure_says}
 use Rattle.client_session.specs.Pieces.{fed}
 use Rattle.bench.specs.Deliver.{pieces}
-use Rattle.bench.specs.Steps.{delivered, delivery_step, delivery_lent}
+use Rattle.bench.specs.Steps.{delivered, delivery_lent}
 use Rattle.cards.specs.Example.{Example, example}
 
 abbrev pub empty_store : List ℕ
@@ -100,7 +100,11 @@ client_examples =
     (store_after initialising (result sent) (ascii "41") empty_store ∷ store_after started.next (refused 3) (ascii "41") empty_store ∷ [])
     (empty_store ∷ empty_store ∷ []) ∷
     example "as in a delivery, which uses up a piece length" (delivery_lent (delivered 80 started.next empty_store (2 ∷ 9 ∷ []) (ascii "41")) out_buffer)
-    (delivery_step (2 ∷ 9 ∷ []) (record { answer = Ok answer.Awaited; written = 0; session = client_holding 2; used = 1 }) (ascii "41" ++ replicate 4094 0) out_buffer) ∷
+    (record {
+      served = client_step (record { answer = Ok answer.Awaited; written = 0; session = client_holding 2 }) out_buffer;
+      store = ascii "41" ++ replicate 4094 0;
+      lengths = 9 ∷ [];
+    }) ∷
     example "a query again, and a `?` for it" (first_query.text ∷ query_again.text ∷ (reply query_again.next "?\r\r>").text ∷ []) (ascii "010C 1\r" ∷ ascii "\r" ∷ ascii "010C 1\r" ∷ []) ∷
     example "repeat after a `?`, and after another reply"
     ((reply query_again.next "?\r\r>").next.server.repeat ∷ (reply query_again.next "NO DATA\r\r>").next.server.repeat ∷ []) (support.No ∷ support.Yes ∷ []) ∷
