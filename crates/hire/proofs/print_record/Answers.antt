@@ -6,10 +6,10 @@ use Rattle.hire.proofs.print_record.Goals as goal
 
 pub slice_bounds-out-end : goal.slice_bounds-out-end
 slice_bounds-out-end g c =
-    let w = text_inside _ _ _ c.hire_text.ensures.out_after c.in-Is.is in
+    let w = text_inside _ _ _ c.hire_text.ensures.out_after c.in-Ok.is in
     omega (arith, w.0, w.1)
 
 pub slice_bounds-write_all-end : goal.slice_bounds-write_all-end
 slice_bounds-write_all-end g c =
-    let w = text_inside _ _ _ c.hire_text.ensures.out_after c.in-Is.is in
+    let w = text_inside _ _ _ c.hire_text.ensures.out_after c.in-Ok.is in
     sym (length-take-le _ _ (omega (arith, w.0)))
