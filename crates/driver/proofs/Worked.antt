@@ -26,9 +26,9 @@ use Rattle.client_session.specs.Session.{fresh_client}
 use Rattle.client_session.specs.Start.{query_says}
 use Rattle.client_session.specs.Piece.{reply_takes, piece_says}
 use Rattle.client_session.specs.Finish.{finish_says}
-use Rattle.driver_log.specs.Log.{logged_of, logged_as}
+use Rattle.driver_log.specs.Log.{turn_at, logged_of, logged_as}
 use Rattle.driver_log.specs.Script.{calls}
-use Rattle.driver_server.specs.Server.{server_at, server_run}
+use Rattle.driver_server.specs.Server.{server_run}
 use Rattle.driver_client.specs.Client.{client_at, client_run, stored_of, stored_as}
 
 -- AT@1 answered with `box`, 010D replied to, and the state
@@ -41,7 +41,7 @@ server_log =
     (65 ∷ 5 ∷ 0 ∷ 5 ∷ 0 ∷ ascii "AT@1\r") ++ ((64 ∷ 0 ∷ 0 ∷ 8 ∷ 0 ∷ ascii "box\r\n\r\n>") ++ ((66 ∷ 5 ∷ 0 ∷ 5 ∷ 0 ∷ ascii "010D\r") ++
     ((64 ∷ 0 ∷ 0 ∷ 13 ∷ 0 ∷ ascii "41 0D 20\r\n\r\n>") ++ ((1 ∷ 1 ∷ 1 ∷ 0 ∷ 0 ∷ 4 ∷ 0 ∷ ascii "010D") ++ (0 ∷ 0 ∷ [])))))
 
-server_log_lem : logged_of (server_run server_calls (server_at fresh_session 0 (replicate 64 9) (replicate 65 9))) ≡ logged_as 64 (ascii "41 0D 20\r\n\r\n>" ++ replicate 51 9) (server_log ++ (9 ∷ []))
+server_log_lem : logged_of (server_run server_calls (turn_at fresh_session 0 (replicate 64 9) (replicate 65 9))) ≡ logged_as 64 (ascii "41 0D 20\r\n\r\n>" ++ replicate 51 9) (server_log ++ (9 ∷ []))
 unfolding high is_space raised hex_digit lines_of_list at_kind line_text reply_text canonical unless byte_taken byte_says bytes_say answer_says reply_says calls
 server_log_lem = refl
 

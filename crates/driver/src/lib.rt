@@ -6,9 +6,9 @@ ghost use Rattle.std.specs.Prelude.{◌≡◌};
 ghost use Rattle.server_session.specs.Session.{fresh_session};
 ghost use Rattle.client_session.specs.Session.{fresh_client};
 ghost use Rattle.bench.specs.Run.{run_answer};
-ghost use Rattle.driver_log.specs.Log.{logged_of, logged_as};
+ghost use Rattle.driver_log.specs.Log.{turn_at, logged_of, logged_as};
 ghost use Rattle.driver_log.specs.Script.{rounds};
-ghost use Rattle.driver_server.specs.Server.{server_at, server_run};
+ghost use Rattle.driver_server.specs.Server.{server_run};
 ghost use Rattle.driver_client.specs.Client.{stored_of, stored_as, client_at, client_run};
 ghost use Rattle.driver.specs.Bench.{run_code, bench_logged};
 
@@ -24,7 +24,7 @@ pub fn driver_server(
     log: &mut [u8],
 ) -> usize
     ensures { logged_as result out.new log.new ≡
-        logged_of (rounds (server_run again.now) times (server_run script.now (server_at fresh_session 0 out.old log.old))) }
+        logged_of (rounds (server_run again.now) times (server_run script.now (turn_at fresh_session 0 out.old log.old))) }
 {
     driver_server::run_rounds(script, times, again, out, log)
 }

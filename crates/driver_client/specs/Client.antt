@@ -17,8 +17,7 @@ use Rattle.client_session.specs.Call.{Progress, sent, awaited, over, complete, v
 use Rattle.client_session.specs.Start.{init_says, command_says, query_says}
 use Rattle.client_session.specs.Piece.{piece_says, store_after, failure_says}
 use Rattle.client_session.specs.Finish.{finish_says}
-use Rattle.driver_client.specs.declared.ClientTurn.{ClientTurn}
-use Rattle.driver_log.specs.Log.{number_bytes, text_entry, flag_byte, Turn, noted, answered, Logged, logged_of}
+use Rattle.driver_log.specs.Log.{number_bytes, text_entry, flag_byte, Turn, turn_at, noted, answered, Logged, logged_of}
 use Rattle.driver_log.specs.Script.{calls}
 
 -- a code for each answer: a number of document 01 as itself, a result as 64 and more; that of a start is 64
@@ -131,14 +130,8 @@ client_call t kind arg =
     (cond (eqb kind 5) (finish_noted t (client_lent (finish_says room c t.store) out))
     (cond (eqb kind 11) (host_writes t arg) (rare_call t kind arg))))))
 
-abbrev pub session_turn : ClientTurn → List ℕ → List ℕ → Turn Client
-session_turn r out log = record { session = client r.session; at = r.at; out = out; log = log }
-
-abbrev pub client_turn : ClientTurn → List ℕ → List ℕ → List ℕ → Stored
-client_turn r store out log = record { turn = session_turn r out log; store = store }
-
 abbrev pub client_at : Client → ℕ → List ℕ → List ℕ → List ℕ → Stored
-client_at c at store out log = record { turn = record { session = c; at = at; out = out; log = log }; store = store }
+client_at c at store out log = record { turn = turn_at c at out log; store = store }
 
 -- a script on a session, logged from the start of the log
 abbrev pub client_run : List ℕ → Stored → Stored

@@ -1,28 +1,28 @@
 // Runs scripts of calls on a client session, and logs what each call answered.
 #![tactic(auto)]
 
-ghost use Rattle.std.specs.Prelude.{◌≡◌, take, drop};
+ghost use Rattle.std.specs.Prelude.{◌≡◌, refl, take, drop};
 ghost use Rattle.wire.specs.Put.{Put};
 ghost use Rattle.wire.specs.Answer.{number, number_of};
 ghost use Rattle.query.specs.Query.{count_of};
 ghost use Rattle.client_session.specs.Session.{client, fresh_client};
 ghost use Rattle.client_session.specs.Call.{client_answer, refusal_of};
-ghost use Rattle.driver_log.specs.Log.{text_entry, answered};
-ghost use Rattle.driver_log.specs.Script.{calls, rounds};
+ghost use Rattle.driver_log.specs.Log.{text_entry, turn_at, answered};
+ghost use Rattle.driver_log.specs.Script.{rounds};
 ghost use Rattle.driver_client.specs.Client.{start_code, step_code, count_entry, support_code, command_code, under_code, length_number, pids_entry};
-ghost use Rattle.driver_client.specs.Client.{state_entry, count_given, client_call, session_turn, client_turn, client_at, client_run, stored_of, stored_as};
+ghost use Rattle.driver_client.specs.Client.{state_entry, count_given, Stored, client_call, client_at, client_run, stored_of, stored_as};
 
 use client_session::{
     ClientAnswer, ClientError, ClientSession, ClientStep, Command, Failure, Under,
 };
+use driver_log::Driven;
 use server_state::{FeatureSupport, ServerState};
 use wire::Refusal;
 
-// A session after some calls of a script, and the position in the log after their entries.
+// A session that a script's calls go to.
 #[derive(Clone, Copy)]
-struct ClientTurn {
+struct Client {
     session: ClientSession,
-    at: usize,
 }
 
 // The number of document 01 that an error tells of.
@@ -170,114 +170,91 @@ fn put_reply(session: ClientSession, store: &[u8], log: &mut [u8], at: usize) ->
     driver_log::put_text(log, at, &store[..size])
 }
 
-// What a step comes to: its entry is logged, with a code and a count.
-fn logged(
-    step: ClientStep,
-    code: u8,
-    count: usize,
-    out: &[u8],
-    log: &mut [u8],
-    at: usize,
-) -> ClientTurn
-    ensures { session_turn result out.now log.new ≡ answered at log.old code count step.written (client step.session) out.now }
-{
-    ClientTurn {
-        session: step.session,
-        at: driver_log::put_call(log, at, code, count, out, step.written),
+impl Client {
+    // What a step comes to: its entry is logged, with a code and a count.
+    fn logged(
+        &mut self,
+        step: &ClientStep,
+        code: u8,
+        count: usize,
+        out: &[u8],
+        log: &mut [u8],
+        at: usize,
+    ) -> usize
+        ensures { turn_at (client self.new.session) result out.now log.new ≡ answered at log.old code count step.now.written (client step.now.session) out.now }
+    {
+        self.session = step.session;
+        driver_log::put_call(log, at, code, count, out, step.written)
+    }
+
+    // The same of a start.
+    fn started(&mut self, step: &ClientStep, out: &[u8], log: &mut [u8], at: usize) -> usize
+        ensures { turn_at (client self.new.session) result out.now log.new ≡
+            answered at log.old (start_code (client_answer step.now.answer)) 0 step.now.written (client step.now.session) out.now }
+    {
+        self.logged(step, start_code(step.answer), 0, out, log, at)
+    }
+
+    // The same of a piece or a failure.
+    fn stepped(&mut self, step: &ClientStep, out: &[u8], log: &mut [u8], at: usize) -> usize
+        ensures { turn_at (client self.new.session) result out.now log.new ≡
+            answered at log.old (step_code (client_answer step.now.answer)) 0 step.now.written (client step.now.session) out.now }
+    {
+        self.logged(step, step_code(step.answer), 0, out, log, at)
     }
 }
 
-// The same of a start.
-fn started(step: ClientStep, out: &[u8], log: &mut [u8], at: usize) -> ClientTurn
-    ensures { session_turn result out.now log.new ≡
-        answered at log.old (start_code (client_answer step.answer)) 0 step.written (client step.session) out.now }
-{
-    logged(step, start_code(step.answer), 0, out, log, at)
-}
+impl Driven for Client {
+    ghost Seen = { Stored };
 
-// The same of a piece or a failure.
-fn stepped(step: ClientStep, out: &[u8], log: &mut [u8], at: usize) -> ClientTurn
-    ensures { session_turn result out.now log.new ≡
-        answered at log.old (step_code (client_answer step.answer)) 0 step.written (client step.session) out.now }
-{
-    logged(step, step_code(step.answer), 0, out, log, at)
-}
+    ghost seen = { λ c at store out log. client_at (client c.session) at store out log };
 
-// A call by its kind.
-fn call(
-    turn: ClientTurn,
-    kind: u8,
-    arg: &[u8],
-    store: &mut [u8],
-    out: &mut [u8],
-    log: &mut [u8],
-) -> ClientTurn
-    ensures { client_turn result store.new out.new log.new ≡
-        client_call (client_turn turn store.old out.old log.old) kind arg.now }
-{
-    let session = turn.session;
-    let at = turn.at;
-    match kind {
-        1 => started(session.command(arg, out), out, log, at),
-        2 => {
-            let pid = driver_log::byte_of(arg, 0);
-            started(session.query_pid(pid, count_given(arg), out), out, log, at)
+    ghost called = { client_call };
+
+    ghost anew = { λ t. client_at t.turn.session 0 t.store t.turn.out t.turn.log };
+
+    ghost starts = { λ c at store out log. refl };
+
+    fn call(
+        &mut self,
+        kind: u8,
+        arg: &[u8],
+        store: &mut [u8],
+        out: &mut [u8],
+        log: &mut [u8],
+        at: usize,
+    ) -> usize {
+        let session = self.session;
+        match kind {
+            1 => self.started(&session.command(arg, out), out, log, at),
+            2 => {
+                let pid = driver_log::byte_of(arg, 0);
+                self.started(&session.query_pid(pid, count_given(arg), out), out, log, at)
+            }
+            3 => self.started(&session.query_pids(arg, None, out), out, log, at),
+            4 => self.stepped(&session.piece(arg, store, out), out, log, at),
+            5 => {
+                let step = session.finish(store, out);
+                let count = value_count(step.answer);
+                self.logged(&step, step_code(step.answer), count, out, log, at)
+            }
+            6 => self.started(&session.init(out), out, log, at),
+            7 => {
+                let count = Some(driver_log::byte_of(arg, 0));
+                let step = session.query_pids(after_first(arg), count, out);
+                self.started(&step, out, log, at)
+            }
+            8 => self.stepped(&session.failure(Failure::Read, out), out, log, at),
+            9 => self.stepped(&session.failure(Failure::Write, out), out, log, at),
+            10 => put_reply(session, store, log, at),
+            // The host writes to its store between two calls.
+            11 => {
+                wire::put(store, 0, arg);
+                at
+            }
+            _ => put_state(session, arg, log, at),
         }
-        3 => started(session.query_pids(arg, None, out), out, log, at),
-        4 => stepped(session.piece(arg, store, out), out, log, at),
-        5 => {
-            let step = session.finish(store, out);
-            let count = value_count(step.answer);
-            logged(step, step_code(step.answer), count, out, log, at)
-        }
-        6 => started(session.init(out), out, log, at),
-        7 => {
-            let count = Some(driver_log::byte_of(arg, 0));
-            started(
-                session.query_pids(after_first(arg), count, out),
-                out,
-                log,
-                at,
-            )
-        }
-        8 => stepped(session.failure(Failure::Read, out), out, log, at),
-        9 => stepped(session.failure(Failure::Write, out), out, log, at),
-        10 => ClientTurn {
-            session,
-            at: put_reply(session, store, log, at),
-        },
-        // The host writes to its store between two calls.
-        11 => {
-            wire::put(store, 0, arg);
-            turn
-        }
-        _ => ClientTurn {
-            session,
-            at: put_state(session, arg, log, at),
-        },
     }
-}
-
-// The calls of a script, one after the other.
-fn run(
-    session: ClientSession,
-    script: &[u8],
-    store: &mut [u8],
-    out: &mut [u8],
-    log: &mut [u8],
-) -> ClientTurn
-    ensures { client_turn result store.new out.new log.new ≡
-        calls client_call (client_at (client session) 0 store.old out.old log.old) script.now }
-{
-    let mut turn = ClientTurn { session, at: 0 };
-    let mut from: usize = 0;
-    while 3 <= script.len() - from {
-        let start = from + 3;
-        let end = start + driver_log::argument_size(script, from);
-        turn = call(turn, script[from], &script[start..end], store, out, log);
-        from = end;
-    }
-    turn
 }
 
 // A script on a client session that asks for CAN headers and repeats queries as told, and then another one for so many rounds. Each round goes on with the session that
@@ -296,9 +273,8 @@ pub fn run_rounds(
         stored_of (rounds (client_run again.now) times
         (client_run script.now (client_at (fresh_client framing repeat) 0 store.old out.old log.old))) }
 {
-    let mut turn = run(ClientSession::new(framing, repeat), script, store, out, log);
-    for _ in 0..times {
-        turn = run(turn.session, again, store, out, log);
-    }
-    turn.at
+    let mut client = Client {
+        session: ClientSession::new(framing, repeat),
+    };
+    driver_log::run_rounds(&mut client, script, times, again, store, out, log)
 }

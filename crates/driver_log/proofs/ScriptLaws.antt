@@ -5,8 +5,8 @@ use Prim.Native.Nat.{ℕ, zero, suc, ◌+◌, ◌-◌, ◌≤◌, ◌<◌, min}
 use native.Mathlib.Omega.{arith}
 use lib.Dec.{leb}
 use lib.ListN.{length, take, drop, get_or, length-drop, drop_of_length-le}
-use lib.Seq.{drop-cons, drop-drop}
 use borrow.Author.Tests.{leb-true, leb-false}
+use Rattle.std.proofs.lemmas.List.{take_all}
 use Rattle.wire.proofs.Cases.{by_test}
 use Rattle.driver_log.specs.Script.{argument_length, calls_within, calls, rounds}
 use Rattle.driver_log.proofs.LogLaws.{take_within}
@@ -21,17 +21,6 @@ drop-within n m s e =
     let k : length s ≤ m = omega arith in
     let l : length s ≤ n = omega arith in
     drop_of_length-le s k ∙ sym (drop_of_length-le s l))
-
--- the three bytes before an argument
-three : (s : List ℕ) (from : ℕ) → 3 ≤ length s - from → drop from s ≡ get_or s from 0 ∷ get_or s (from + 1) 0 ∷ get_or s (from + 2) 0 ∷ drop (from + 3) s
-three s from h =
-    let one : suc from ≡ from + 1 = omega arith in
-    let two : suc (from + 1) ≡ from + 2 = omega arith in
-    let last : suc (from + 2) ≡ from + 3 = omega arith in
-    drop-cons s from 0 (omega arith) ∙
-    ap (λ r. get_or s from 0 ∷ r)
-    (ap (λ i. drop i s) one ∙ drop-cons s (from + 1) 0 (omega arith) ∙
-    ap (λ r. get_or s (from + 1) 0 ∷ r) (ap (λ i. drop i s) two ∙ drop-cons s (from + 2) 0 (omega arith) ∙ ap (λ i. get_or s (from + 2) 0 ∷ drop i s) last))
 
 module _ {T : Type 0} (call : T → ℕ → List ℕ → T) where
   -- as many calls as there are bytes are enough
@@ -55,32 +44,28 @@ module _ {T : Type 0} (call : T → ℕ → List ℕ → T) where
       let a = argument_length low high in
       enough (suc (suc (length s))) (length (drop a s)) (call t k (take a s)) (drop a s) (omega (arith, length-drop a s)) (omega arith)
 
-  calls_short : (t : T) (s : List ℕ) → length s < 3 → calls call t s ≡ t
-  unfolding calls
-  calls_short t [] h = refl
-  calls_short t (k ∷ []) h = refl
-  calls_short t (k ∷ low ∷ []) h = refl
-  calls_short t (k ∷ low ∷ high ∷ s) h = absurd (omega arith)
-
-  -- the call at a position, and then the others
-  pub calls_turn : (t u : T) (s : List ℕ) (from size kind : ℕ) → 3 ≤ length s - from →
-      size ≡ min (argument_length (get_or s (from + 1) 0) (get_or s (from + 2) 0)) (length s - from - 3) → get_or s from 0 ≡ kind →
-      u ≡ call t kind (take (from + 3 + size - (from + 3)) (drop (from + 3) s)) →
-      calls call u (drop (from + 3 + size) s) ≡ calls call t (drop from s)
-  calls_turn t u s from size kind h e k w =
-      let a = argument_length (get_or s (from + 1) 0) (get_or s (from + 2) 0) in
-      let r = drop (from + 3) s in
-      let m : size ≡ min a (length r) = omega (arith, e, length-drop (from + 3) s) in
-      let n : from + 3 + size - (from + 3) ≡ min a (length r) = omega arith in
-      let f : call t kind (take (from + 3 + size - (from + 3)) r) ≡ call t (get_or s from 0) (take a r) =
-      ap (λ i. call t i (take (from + 3 + size - (from + 3)) r)) (sym k) ∙ ap (call t (get_or s from 0)) (take_within a (from + 3 + size - (from + 3)) r n) in
-      ap (λ x. calls call x (drop (from + 3 + size) s)) (w ∙ f) ∙
-      ap (calls call (call t (get_or s from 0) (take a r))) (sym (drop-drop size (from + 3) s) ∙ drop-within a size r m) ∙
-      sym (ap (calls call t) (three s from h) ∙ calls-cons t (get_or s from 0) (get_or s (from + 1) 0) (get_or s (from + 2) 0) r)
+  -- the script's first call, and then the others: after are the bytes behind the three of its kind and its argument's length
+  pub calls_turn : (t u : T) (s after front back : List ℕ) (size : ℕ) → 3 ≤ length s → after ≡ take (length s - 3) (drop 3 s) →
+      size ≡ min (argument_length (get_or s 1 0) (get_or s 2 0)) (length after) → front ≡ take size after → back ≡ drop size after →
+      u ≡ call t (get_or s 0 0) front → calls call u back ≡ calls call t s
+  calls_turn t u [] after front back size h a e f b w = absurd (omega arith)
+  calls_turn t u (k ∷ []) after front back size h a e f b w = absurd (omega arith)
+  calls_turn t u (k ∷ low ∷ []) after front back size h a e f b w = absurd (omega arith)
+  calls_turn t u (k ∷ low ∷ high ∷ r) after front back size h a e f b w =
+      let n = argument_length low high in
+      let all : after ≡ r = a ∙ take_all (suc (suc (suc (length r))) - 3) r (omega arith) in
+      let m : size ≡ min n (length r) = e ∙ ap (λ x. min n (length x)) all in
+      let g : front ≡ take n r = f ∙ ap (take size) all ∙ take_within n size r m in
+      let l : back ≡ drop n r = b ∙ ap (drop size) all ∙ drop-within n size r m in
+      ap (λ x. calls call x back) w ∙ ap (λ x. calls call (call t k x) back) g ∙ ap (calls call (call t k (take n r))) l ∙ sym (calls-cons t k low high r)
 
   -- no call is left
-  pub calls_end : (t : T) (s : List ℕ) (from : ℕ) → length s - from < 3 → calls call t (drop from s) ≡ t
-  calls_end t s from h = calls_short t (drop from s) (omega (arith, length-drop from s))
+  pub calls_end : (t : T) (s : List ℕ) → length s < 3 → calls call t s ≡ t
+  unfolding calls
+  calls_end t [] h = refl
+  calls_end t (k ∷ []) h = refl
+  calls_end t (k ∷ low ∷ []) h = refl
+  calls_end t (k ∷ low ∷ high ∷ s) h = absurd (omega arith)
 
 -- one more of so many rounds
 pub rounds_turn : {T : Type 0} (once : T → T) (n round : ℕ) (t : T) → round < n → rounds once (n - (round + 1)) (once t) ≡ rounds once (n - round) t

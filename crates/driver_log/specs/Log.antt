@@ -24,6 +24,9 @@ pub record Turn (S : Type 0) : Type 0 where
   pub out : List ℕ
   pub log : List ℕ
 
+abbrev pub turn_at : {S : Type 0} → S → ℕ → List ℕ → List ℕ → Turn S
+turn_at s at out log = record { session = s; at = at; out = out; log = log }
+
 -- an entry is written, as far as the log reaches
 abbrev pub noted : {S : Type 0} → S → ℕ → List ℕ → List ℕ → List ℕ → Turn S
 noted s at out log entry = record { session = s; at = at + min (length entry) (length log - at); out = out; log = sets log at entry }

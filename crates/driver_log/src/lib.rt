@@ -2,10 +2,10 @@
 // the argument. compare/README.md has the kinds and the entries of the log.
 #![tactic(auto)]
 
-ghost use Rattle.std.specs.Prelude.{◌≡◌, ◌+◌, ◌-◌, min, length, take, get_or};
+ghost use Rattle.std.specs.Prelude.{◌≡◌, List, ℕ, min, take, get_or};
 ghost use Rattle.wire.specs.Put.{Put};
 ghost use Rattle.driver_log.specs.Log.{number_bytes, text_entry, call_entry, flag_byte};
-ghost use Rattle.driver_log.specs.Script.{argument_length};
+ghost use Rattle.driver_log.specs.Script.{argument_length, calls, rounds};
 
 // A number in two bytes, the lower first; of a larger one what is left by 65,536.
 pub fn put_number(log: &mut [u8], at: usize, n: usize) -> usize
@@ -57,17 +57,78 @@ pub fn byte_of(arg: &[u8], i: usize) -> u8
     arg.get(i).copied().unwrap_or(0)
 }
 
-// How many bytes of the script the argument of the call at from takes, as far as the script reaches; none where it ends before the argument.
-pub fn argument_size(script: &[u8], from: usize) -> usize
-    ensures { result ≡ min (argument_length (get_or script.now (from + 1) 0) (get_or script.now (from + 2) 0)) (length script.now - from - 3) }
+// How many bytes an argument takes, by its length in two bytes, where so many are left in the script.
+fn argument_size(low: u8, high: u8, left: usize) -> usize
+    ensures { result ≡ min (argument_length low high) left }
 {
-    if script.len() < 3 {
-        return 0;
+    wire::at_most(usize::from(low) + usize::from(high) * 256, left)
+}
+
+// A session that a script's calls go to.
+pub trait Driven {
+    // What the definitions say of a session, the position in the log, and the buffers lent: store, out and log.
+    ghost Seen: { Type 0 };
+
+    ghost seen: { Self → ℕ → List ℕ → List ℕ → List ℕ → Seen };
+
+    // What a call does, by its kind and its argument.
+    ghost called: { Seen → ℕ → List ℕ → Seen };
+
+    // The same session and buffers, at the start of the log.
+    ghost anew: { Seen → Seen };
+
+    // A call by its kind, with its entry in the log from position at on. The answer is the position after it.
+    fn call(
+        &mut self,
+        kind: u8,
+        arg: &[u8],
+        store: &mut [u8],
+        out: &mut [u8],
+        log: &mut [u8],
+        at: usize,
+    ) -> usize
+        ensures { seen self.new result store.new out.new log.new ≡ called (seen self.old at store.old out.old log.old) kind arg.now };
+
+    ghost starts: { (s : Self) (at : ℕ) (store out log : List ℕ) → anew (seen s at store out log) ≡ seen s 0 store out log };
+}
+
+// The calls of a script, one after the other, logged from the start of the log. The answer is the length of the log.
+fn run<D: Driven>(
+    session: &mut D,
+    script: &[u8],
+    store: &mut [u8],
+    out: &mut [u8],
+    log: &mut [u8],
+) -> usize
+    ensures { D.seen session.new result store.new out.new log.new ≡ calls D.called (D.seen session.old 0 store.old out.old log.old) script.now }
+{
+    let mut at: usize = 0;
+    let mut rest = script;
+    while let [kind, low, high, after @ ..] = rest {
+        let (argument, left) = after.split_at(argument_size(*low, *high, after.len()));
+        at = session.call(*kind, argument, store, out, log, at);
+        rest = left;
     }
-    if script.len() - 3 < from {
-        return 0;
+    at
+}
+
+// A script, and then another one for so many rounds. Each round goes on with the session that the one before it left; the script and each round log from the start of
+// the log. The answer is the length of the last log.
+pub fn run_rounds<D: Driven>(
+    session: &mut D,
+    script: &[u8],
+    times: usize,
+    again: &[u8],
+    store: &mut [u8],
+    out: &mut [u8],
+    log: &mut [u8],
+) -> usize
+    ensures { D.seen session.new result store.new out.new log.new ≡
+        rounds (λ t. calls D.called (D.anew t) again.now) times (calls D.called (D.seen session.old 0 store.old out.old log.old) script.now) }
+{
+    let mut at = run(session, script, store, out, log);
+    for _ in 0..times {
+        at = run(session, again, store, out, log);
     }
-    let low = usize::from(script[from + 1]);
-    let high = usize::from(script[from + 2]);
-    wire::at_most(low + high * 256, script.len() - from - 3)
+    at
 }

@@ -4,12 +4,11 @@ use Rattle.wire.specs.Answer.{Answer, result, refused}
 use Rattle.wire.specs.Text.{ascii}
 use Rattle.server_session.specs.declared.Phase.{Phase}
 use Rattle.server_session.specs.declared.Phase.TheVariants as phase
-use Rattle.server_session.specs.Session.{Session, session}
+use Rattle.server_session.specs.Session.{Session}
 use Rattle.server_session.specs.Call.{ServerServed, server_lent}
 use Rattle.server_session.specs.Bytes.{byte_says, bytes_say}
 use Rattle.server_session.specs.Replies.{answer_says, reply_says, reject_says}
-use Rattle.driver_server.specs.declared.ServerTurn.{ServerTurn}
-use Rattle.driver_log.specs.Log.{text_entry, flag_byte, Turn, noted, answered}
+use Rattle.driver_log.specs.Log.{text_entry, flag_byte, Turn, turn_at, noted, answered}
 use Rattle.driver_log.specs.Script.{calls}
 
 -- a code for each answer: a number of document 01 as itself, a result as 64 and more
@@ -53,12 +52,6 @@ server_call t kind arg =
     (cond (eqb kind 3) (call_noted t 0 (server_lent (reply_says (length out) s arg) out))
     (cond (eqb kind 4) (call_noted t 0 (server_lent (answer_says (length out) s (ascii "ELM327 v1.5") arg) out)) (rare_server_call t kind arg))))
 
-abbrev pub server_turn : ServerTurn → List ℕ → List ℕ → Turn Session
-server_turn r out log = record { session = session r.session; at = r.at; out = out; log = log }
-
-abbrev pub server_at : Session → ℕ → List ℕ → List ℕ → Turn Session
-server_at s at out log = record { session = s; at = at; out = out; log = log }
-
 -- a script on a session, logged from the start of the log
 abbrev pub server_run : List ℕ → Turn Session → Turn Session
-server_run script t = calls server_call (server_at t.session 0 t.out t.log) script
+server_run script t = calls server_call (turn_at t.session 0 t.out t.log) script

@@ -1,24 +1,24 @@
 // Runs scripts of calls on a server session, and logs what each call answered.
 #![tactic(auto)]
 
-ghost use Rattle.std.specs.Prelude.{◌≡◌};
+ghost use Rattle.std.specs.Prelude.{◌≡◌, refl};
 ghost use Rattle.wire.specs.Put.{Put};
 ghost use Rattle.client_state.specs.Settings.{settings};
-ghost use Rattle.server_session.specs.Session.{session, fresh_session};
+ghost use Rattle.server_session.specs.Session.{Session, session, fresh_session};
 ghost use Rattle.server_session.specs.Call.{server_answer};
-ghost use Rattle.driver_log.specs.Log.{text_entry, answered, logged_of, logged_as};
-ghost use Rattle.driver_log.specs.Script.{calls, rounds};
-ghost use Rattle.driver_server.specs.Server.{answer_code, phase_code, server_entry, server_call, server_turn, server_at, server_run};
+ghost use Rattle.driver_log.specs.Log.{text_entry, Turn, turn_at, answered, logged_of, logged_as};
+ghost use Rattle.driver_log.specs.Script.{rounds};
+ghost use Rattle.driver_server.specs.Server.{answer_code, phase_code, server_entry, server_call, server_run};
 
 use client_state::ClientState;
+use driver_log::Driven;
 use server_session::{Phase, ServerSession, ServerStep};
 use wire::Refusal;
 
-// A session after some calls of a script, and the position in the log after their entries.
+// A session that a script's calls go to.
 #[derive(Clone, Copy)]
-struct ServerTurn {
+struct Server {
     session: ServerSession,
-    at: usize,
 }
 
 // The codes of answers: a number of document 01 as itself, and a result as 64 or more.
@@ -72,62 +72,61 @@ fn put_state(server: ServerSession, log: &mut [u8], at: usize) -> usize
     put_line(server, log, at)
 }
 
-// What a step comes to: its entry is logged, with so many bytes taken.
-fn logged(step: ServerStep, taken: usize, out: &[u8], log: &mut [u8], at: usize) -> ServerTurn
-    ensures { server_turn result out.now log.new ≡
-        answered at log.old (answer_code (server_answer step.answer)) taken step.written (session step.session) out.now }
-{
-    ServerTurn {
-        session: step.session,
-        at: driver_log::put_call(log, at, answer_code(step.answer), taken, out, step.written),
+impl Server {
+    // What a step comes to: its entry is logged, with so many bytes taken.
+    fn logged(
+        &mut self,
+        step: &ServerStep,
+        taken: usize,
+        out: &[u8],
+        log: &mut [u8],
+        at: usize,
+    ) -> usize
+        ensures { turn_at (session self.new.session) result out.now log.new ≡
+            answered at log.old (answer_code (server_answer step.now.answer)) taken step.now.written (session step.now.session) out.now }
+    {
+        self.session = step.session;
+        driver_log::put_call(log, at, answer_code(step.answer), taken, out, step.written)
     }
 }
 
-// A call by its kind.
-fn call(turn: ServerTurn, kind: u8, arg: &[u8], out: &mut [u8], log: &mut [u8]) -> ServerTurn
-    ensures { server_turn result out.new log.new ≡ server_call (server_turn turn out.old log.old) kind arg.now }
-{
-    let server = turn.session;
-    let at = turn.at;
-    match kind {
-        1 => logged(
-            server.byte(driver_log::byte_of(arg, 0), out),
-            0,
-            out,
-            log,
-            at,
-        ),
-        2 => {
-            let step = server.bytes(arg, out);
-            logged(step, step.taken, out, log, at)
+impl Driven for Server {
+    ghost Seen = { Turn Session };
+    // A server has no store.
+    ghost seen = { λ s at store out log. turn_at (session s.session) at out log };
+
+    ghost called = { server_call };
+
+    ghost anew = { λ t. turn_at t.session 0 t.out t.log };
+
+    ghost starts = { λ s at store out log. refl };
+
+    fn call(
+        &mut self,
+        kind: u8,
+        arg: &[u8],
+        store: &mut [u8],
+        out: &mut [u8],
+        log: &mut [u8],
+        at: usize,
+    ) -> usize {
+        let server = self.session;
+        match kind {
+            1 => {
+                let step = server.byte(driver_log::byte_of(arg, 0), out);
+                self.logged(&step, 0, out, log, at)
+            }
+            2 => {
+                let step = server.bytes(arg, out);
+                self.logged(&step, step.taken, out, log, at)
+            }
+            3 => self.logged(&server.reply(arg, out), 0, out, log, at),
+            4 => self.logged(&server.answer(b"ELM327 v1.5", arg, out), 0, out, log, at),
+            5 => self.logged(&server.reject(arg, out), 0, out, log, at),
+            6 => self.logged(&server.answer(arg, b"ELM327", out), 0, out, log, at),
+            _ => put_state(server, log, at),
         }
-        3 => logged(server.reply(arg, out), 0, out, log, at),
-        4 => logged(server.answer(b"ELM327 v1.5", arg, out), 0, out, log, at),
-        5 => logged(server.reject(arg, out), 0, out, log, at),
-        6 => logged(server.answer(arg, b"ELM327", out), 0, out, log, at),
-        _ => ServerTurn {
-            session: server,
-            at: put_state(server, log, at),
-        },
     }
-}
-
-// The calls of a script, one after the other.
-fn run(server: ServerSession, script: &[u8], out: &mut [u8], log: &mut [u8]) -> ServerTurn
-    ensures { server_turn result out.new log.new ≡ calls server_call (server_at (session server) 0 out.old log.old) script.now }
-{
-    let mut turn = ServerTurn {
-        session: server,
-        at: 0,
-    };
-    let mut from: usize = 0;
-    while 3 <= script.len() - from {
-        let start = from + 3;
-        let end = start + driver_log::argument_size(script, from);
-        turn = call(turn, script[from], &script[start..end], out, log);
-        from = end;
-    }
-    turn
 }
 
 // A script on a server session, and then another one for so many rounds. Each round goes on with the session that the one before it left; the script and each round
@@ -140,11 +139,10 @@ pub fn run_rounds(
     log: &mut [u8],
 ) -> usize
     ensures { logged_as result out.new log.new ≡
-        logged_of (rounds (server_run again.now) times (server_run script.now (server_at fresh_session 0 out.old log.old))) }
+        logged_of (rounds (server_run again.now) times (server_run script.now (turn_at fresh_session 0 out.old log.old))) }
 {
-    let mut turn = run(ServerSession::new(), script, out, log);
-    for _ in 0..times {
-        turn = run(turn.session, again, out, log);
-    }
-    turn.at
+    let mut server = Server {
+        session: ServerSession::new(),
+    };
+    driver_log::run_rounds(&mut server, script, times, again, &mut [], out, log)
 }
