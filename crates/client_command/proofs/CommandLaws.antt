@@ -17,18 +17,7 @@ use lib.Seq.{drop-cons}
 use Rattle.std.proofs.lemmas.Bool.Decides.{nat_tests}
 use Rattle.client_command.specs.Commands.{with_cr, is_command, setup_text}
 
--- a raw command's text by its last byte
-pub cr_there : (s : List ℕ) → get_or s (length s - 1) 0 ≡ 13 → with_cr s ≡ s
-cr_there s e = rw (eq-eqb (get_or s (length s - 1) 0) 13 e)
-
-pub cr_added : (s : List ℕ) → (get_or s (length s - 1) 0 ≡ 13 → ⊥) → with_cr s ≡ s ++ (13 ∷ [])
-cr_added s e = rw (ne_eqb (get_or s (length s - 1) 0) 13 e)
-
-pub cr_alone : (s : List ℕ) → length s ≡ 0 → with_cr s ≡ s ++ (13 ∷ [])
-cr_alone [] e = refl
-cr_alone (b ∷ s) e = absurd (omega arith)
-
--- and by std's test of it
+-- a raw command's last byte, by std's test of it
 pub cr_tested : (s : List ℕ) → ends_with eqb s (13 ∷ []) ≡ eqb (get_or s (length s - 1) 0) 13
 cr_tested [] = refl
 cr_tested (b ∷ s) =
@@ -70,14 +59,6 @@ command_found s t false u e =
     let z : false ≡ true = e.1 (sym (all_small s) ∙ ap (map to_ascii_lowercase) w) in
     from_no cc)
     (λ h. h)
-
--- the last command of the initialisation
-pub setup_last : (framing : Bool) (k : ℕ) → (k ≡ 0 → ⊥) → (k ≡ 1 → ⊥) → (k ≡ 2 → ⊥) → (k ≡ 3 → ⊥) → setup_text framing k ≡ cond framing (ascii "ATH1\r") (ascii "ATH0\r")
-setup_last framing zero a b c d = absurd (a refl)
-setup_last framing (suc zero) a b c d = absurd (b refl)
-setup_last framing (suc (suc zero)) a b c d = absurd (c refl)
-setup_last framing (suc (suc (suc zero))) a b c d = absurd (d refl)
-setup_last framing (suc (suc (suc (suc k)))) a b c d = refl
 
 -- a command of the initialisation has at most six bytes
 pub setup_length : (framing : Bool) (k : ℕ) → length (setup_text framing k) ≤ 6

@@ -72,8 +72,3 @@ pub rounds_turn : {T : Type 0} (once : T → T) (n round : ℕ) (t : T) → roun
 rounds_turn once n round t h =
     let e : n - round ≡ suc (n - (round + 1)) = omega arith in
     sym (ap (λ k. rounds once k t) e)
-
-pub rounds_end : {T : Type 0} (once : T → T) (n round : ℕ) (t : T) → n ≤ round → rounds once (n - round) t ≡ t
-rounds_end once n round t h =
-    let e : n - round ≡ 0 = omega arith in
-    ap (λ k. rounds once k t) e

@@ -93,15 +93,3 @@ bytes_back [] a = refl
 bytes_back (b ∷ s) a = rw (byte_back b a.0, bytes_back s a.1)
 
 -- ---- as the writers store them
-
--- the digits above the lowest, then the lowest
-pub put_digit : {out o₁ left : List ℕ} {at a r d : ℕ} (w n : ℕ) →
-    Put out at (hex_digits w (n / 16)) a o₁ → d ≡ hex_digit (n % 16) → Put o₁ a (d ∷ []) r left → Put out at (hex_digits (suc w) n) r left
-put_digit w n p e q = put_then p (rw e at q)
-
--- a byte's digits go by the low eight bits
-pub byte_low : (n : ℕ) → hex_byte (n % 256) ≡ hex_byte n
-byte_low n =
-    let high : n % 256 / 16 % 16 ≡ n / 16 % 16 = omega arith in
-    let low : n % 256 % 16 ≡ n % 16 = omega arith in
-    rw (high, low)

@@ -1,4 +1,4 @@
--- Laws of the digits read: a digit by the range that its character is in, how large a number of so many characters can be, and what a plus makes of one.
+-- Laws of the digits read: how large a number of so many characters can be, and what a plus makes of one.
 use mathlib.Core.Path.{◌≡◌, refl, ap, ◌∙◌}
 use mathlib.Core.Bool.{true, false, cond}
 use mathlib.Core.List.{List, [], ◌∷◌, ◌++◌}
@@ -12,35 +12,6 @@ use borrow.Author.Tests.{le-leb, lt-leb, leb-true}
 use Rattle.wire.proofs.Cases.{by_test}
 use Rattle.wire.proofs.All.{All}
 use Rattle.hex_text.specs.Read.{within, digit, shifted, digits_after, hex_number, kept, pair_bytes}
-
--- ---- a digit by ranges, as a `match` asks for it
-
-module _ (c : ℕ) where
-  inside : (lo hi : ℕ) → lo ≤ c → c ≤ hi → within lo hi c ≡ true
-  inside lo hi h k = rw (le-leb lo c h, le-leb c hi k)
-
-  outside : (lo hi : ℕ) → (lo ≤ c → hi < c) → within lo hi c ≡ false
-  outside lo hi h = by_test (leb lo c) (λ e. rw e (lt-leb c hi (h (leb-true lo c e)))) (λ e. rw e)
-
-  -- 0 to 9
-  pub digit_09 : 48 ≤ c → c ≤ 57 → digit c ≡ some (c - 48)
-  unfolding digit
-  digit_09 h k = rw (inside 48 57 h k)
-
-  -- A to F
-  pub digit_AF : 65 ≤ c → c ≤ 70 → digit c ≡ some (c - 55)
-  unfolding digit
-  digit_AF h k = rw (outside 48 57 (λ _. omega arith), inside 65 70 h k)
-
-  -- a to f
-  pub digit_af : 97 ≤ c → c ≤ 102 → digit c ≡ some (c - 87)
-  unfolding digit
-  digit_af h k = rw (outside 48 57 (λ _. omega arith), outside 65 70 (λ _. omega arith), inside 97 102 h k)
-
-  -- any other character
-  pub digit_bad : (48 ≤ c → 57 < c) → (65 ≤ c → 70 < c) → (97 ≤ c → 102 < c) → digit c ≡ none
-  unfolding digit
-  digit_bad h k l = rw (outside 48 57 h, outside 65 70 k, outside 97 102 l)
 
 -- ---- a number is small: of w characters it is below 16 ^ w
 

@@ -12,17 +12,6 @@ use Rattle.wire.proofs.All.{All, all_append}
 use Rattle.hex_text.proofs.DigitLaws.{bytes_all, bytes_length, digit_between}
 use Rattle.query.specs.Query.{decimal, count_text, text_of_query}
 
--- ---- a number in decimal, by its size
-
-pub decimal_one : (n : ℕ) → n < 10 → decimal n ≡ (48 + n) ∷ []
-decimal_one n h = rw (lt-ltb n 10 h)
-
-pub decimal_two : (n : ℕ) → 10 ≤ n → n < 100 → decimal n ≡ (48 + n / 10) ∷ (48 + n % 10) ∷ []
-decimal_two n h k = rw (le-ltb n 10 h, lt-ltb n 100 k)
-
-pub decimal-three : (n : ℕ) → 100 ≤ n → decimal n ≡ (48 + n / 100) ∷ (48 + n / 10 % 10) ∷ (48 + n % 10) ∷ []
-decimal-three n h = rw (le-ltb n 10 (omega arith), le-ltb n 100 h)
-
 -- ---- how long a query is
 
 decimal-length : (n : ℕ) → length (decimal n) ≤ 3

@@ -20,11 +20,6 @@ use Rattle.line_list.specs.Lines.{Line, line_format}
 use Rattle.group.specs.Format.{read_all}
 use Rattle.reply.specs.Reply.{ecu_id, space_if, further_hex, data_hex, header, line_text}
 
--- an ECU that is known
-pub id_known : (e : ℕ) → (e ≡ 0 → ⊥) → ecu_id e ≡ e - 1
-id_known zero ne = absurd (ne refl)
-id_known (suc id) ne = omega arith
-
 -- where there is room for two texts, the first leaves room for the second
 pub room_after : {out o₁ t : List ℕ} {at a : ℕ} (u : List ℕ) → at + length (t ++ u) ≤ length out → Put out at t a o₁ → a + length u ≤ length o₁
 room_after {out} {o₁} {t} {at} {a} u h p = omega (arith, length-append t u, put_length p, p.next)
