@@ -1,5 +1,5 @@
 -- Scripts on a client session: each call is what the session's own definition says of it.
-use Rattle.std.specs.Prelude.{true, false, cond, List, [], ◌∷◌, ◌++◌, ℕ, suc, eqb, length, take, drop, get_or}
+use Rattle.std.specs.Prelude.{true, false, cond, ◌||◌, List, [], ◌∷◌, ◌++◌, ℕ, suc, eqb, length, take, drop, get_or}
 use Rattle.std.proofs.Math.Option.{Option, none, some}
 use Rattle.std.proofs.lemmas.List.Edits.{sets}
 use Rattle.wire.specs.Answer.{Answer, result, refused}
@@ -37,6 +37,14 @@ step_code (refused n) = n
 abbrev pub count_entry : Answer Progress → ℕ
 count_entry (result p) = value_count p
 count_entry (refused n) = 0
+
+-- the code of a call's answer, by its kind: a piece, a finish and the two failures go on with what was started
+abbrev pub code_of : ℕ → Answer Progress → ℕ
+code_of kind a = cond (eqb kind 4 || eqb kind 5 || eqb kind 8 || eqb kind 9) (step_code a) (start_code a)
+
+-- how many values a call gave, by its kind
+abbrev pub count_of_kind : ℕ → Answer Progress → ℕ
+count_of_kind kind a = cond (eqb kind 5) (count_entry a) 0
 
 abbrev pub support_code : FeatureSupport → ℕ
 support_code support.Unknown = 0

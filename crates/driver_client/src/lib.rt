@@ -9,7 +9,7 @@ ghost use Rattle.client_session.specs.Session.{client, fresh_client};
 ghost use Rattle.client_session.specs.Call.{client_answer, refusal_of};
 ghost use Rattle.driver_log.specs.Log.{text_entry, turn_at, answered};
 ghost use Rattle.driver_log.specs.Script.{rounds};
-ghost use Rattle.driver_client.specs.Client.{start_code, step_code, count_entry, support_code, command_code, under_code, length_number, pids_entry};
+ghost use Rattle.driver_client.specs.Client.{start_code, step_code, code_of, count_of_kind, support_code, command_code, under_code, length_number, pids_entry};
 ghost use Rattle.driver_client.specs.Client.{state_entry, count_given, Stored, client_call, client_at, client_run, stored_of, stored_as};
 
 use client_session::{
@@ -54,12 +54,22 @@ fn step_code(answer: Result<ClientAnswer, ClientError>) -> u8
     }
 }
 
-// How many values a finish gave.
-fn value_count(answer: Result<ClientAnswer, ClientError>) -> usize
-    ensures { result ≡ count_entry (client_answer answer) }
+// The code of a call's answer, by its kind.
+fn code_of(kind: u8, answer: Result<ClientAnswer, ClientError>) -> u8
+    ensures { result ≡ code_of kind (client_answer answer) }
+{
+    match kind {
+        4 | 5 | 8 | 9 => step_code(answer),
+        _ => start_code(answer),
+    }
+}
+
+// How many values a call gave, by its kind: a finish alone gives values.
+fn count_of_kind(kind: u8, answer: Result<ClientAnswer, ClientError>) -> usize
+    ensures { result ≡ count_of_kind kind (client_answer answer) }
 {
     match answer {
-        Ok(ClientAnswer::Values(count)) => count,
+        Ok(ClientAnswer::Values(count)) if kind == 5 => count,
         _ => 0,
     }
 }
@@ -170,40 +180,6 @@ fn put_reply(session: ClientSession, store: &[u8], log: &mut [u8], at: usize) ->
     driver_log::put_text(log, at, &store[..size])
 }
 
-impl Client {
-    // What a step comes to: its entry is logged, with a code and a count.
-    fn logged(
-        &mut self,
-        step: &ClientStep,
-        code: u8,
-        count: usize,
-        out: &[u8],
-        log: &mut [u8],
-        at: usize,
-    ) -> usize
-        ensures { turn_at (client self.new.session) result out.now log.new ≡ answered at log.old code count step.now.written (client step.now.session) out.now }
-    {
-        self.session = step.session;
-        driver_log::put_call(log, at, code, count, out, step.written)
-    }
-
-    // The same of a start.
-    fn started(&mut self, step: &ClientStep, out: &[u8], log: &mut [u8], at: usize) -> usize
-        ensures { turn_at (client self.new.session) result out.now log.new ≡
-            answered at log.old (start_code (client_answer step.now.answer)) 0 step.now.written (client step.now.session) out.now }
-    {
-        self.logged(step, start_code(step.answer), 0, out, log, at)
-    }
-
-    // The same of a piece or a failure.
-    fn stepped(&mut self, step: &ClientStep, out: &[u8], log: &mut [u8], at: usize) -> usize
-        ensures { turn_at (client self.new.session) result out.now log.new ≡
-            answered at log.old (step_code (client_answer step.now.answer)) 0 step.now.written (client step.now.session) out.now }
-    {
-        self.logged(step, step_code(step.answer), 0, out, log, at)
-    }
-}
-
 impl Driven for Client {
     ghost Seen = { Stored };
 
@@ -224,36 +200,34 @@ impl Driven for Client {
         log: &mut [u8],
         at: usize,
     ) -> usize {
-        let session = self.session;
-        match kind {
-            1 => self.started(&session.command(arg, out), out, log, at),
+        let step = match kind {
+            1 => self.session.command(arg, out),
             2 => {
                 let pid = driver_log::byte_of(arg, 0);
-                self.started(&session.query_pid(pid, count_given(arg), out), out, log, at)
+                self.session.query_pid(pid, count_given(arg), out)
             }
-            3 => self.started(&session.query_pids(arg, None, out), out, log, at),
-            4 => self.stepped(&session.piece(arg, store, out), out, log, at),
-            5 => {
-                let step = session.finish(store, out);
-                let count = value_count(step.answer);
-                self.logged(&step, step_code(step.answer), count, out, log, at)
-            }
-            6 => self.started(&session.init(out), out, log, at),
+            3 => self.session.query_pids(arg, None, out),
+            4 => self.session.piece(arg, store, out),
+            5 => self.session.finish(store, out),
+            6 => self.session.init(out),
             7 => {
                 let count = Some(driver_log::byte_of(arg, 0));
-                let step = session.query_pids(after_first(arg), count, out);
-                self.started(&step, out, log, at)
+                self.session.query_pids(after_first(arg), count, out)
             }
-            8 => self.stepped(&session.failure(Failure::Read, out), out, log, at),
-            9 => self.stepped(&session.failure(Failure::Write, out), out, log, at),
-            10 => put_reply(session, store, log, at),
+            8 => self.session.failure(Failure::Read, out),
+            9 => self.session.failure(Failure::Write, out),
+            10 => return put_reply(self.session, store, log, at),
             // The host writes to its store between two calls.
             11 => {
                 wire::put(store, 0, arg);
-                at
+                return at;
             }
-            _ => put_state(session, arg, log, at),
-        }
+            _ => return put_state(self.session, arg, log, at),
+        };
+        self.session = step.session;
+        let code = code_of(kind, step.answer);
+        let count = count_of_kind(kind, step.answer);
+        driver_log::put_call(log, at, code, count, out, step.written)
     }
 }
 

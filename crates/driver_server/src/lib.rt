@@ -6,7 +6,7 @@ ghost use Rattle.wire.specs.Put.{Put};
 ghost use Rattle.client_state.specs.Settings.{settings};
 ghost use Rattle.server_session.specs.Session.{Session, session, fresh_session};
 ghost use Rattle.server_session.specs.Call.{server_answer};
-ghost use Rattle.driver_log.specs.Log.{text_entry, Turn, turn_at, answered, logged_of, logged_as};
+ghost use Rattle.driver_log.specs.Log.{text_entry, Turn, turn_at, logged_of, logged_as};
 ghost use Rattle.driver_log.specs.Script.{rounds};
 ghost use Rattle.driver_server.specs.Server.{answer_code, phase_code, server_entry, server_call, server_run};
 
@@ -72,24 +72,6 @@ fn put_state(server: ServerSession, log: &mut [u8], at: usize) -> usize
     put_line(server, log, at)
 }
 
-impl Server {
-    // What a step comes to: its entry is logged, with so many bytes taken.
-    fn logged(
-        &mut self,
-        step: &ServerStep,
-        taken: usize,
-        out: &[u8],
-        log: &mut [u8],
-        at: usize,
-    ) -> usize
-        ensures { turn_at (session self.new.session) result out.now log.new ≡
-            answered at log.old (answer_code (server_answer step.now.answer)) taken step.now.written (session step.now.session) out.now }
-    {
-        self.session = step.session;
-        driver_log::put_call(log, at, answer_code(step.answer), taken, out, step.written)
-    }
-}
-
 impl Driven for Server {
     ghost Seen = { Turn Session };
     // A server has no store.
@@ -110,22 +92,19 @@ impl Driven for Server {
         log: &mut [u8],
         at: usize,
     ) -> usize {
-        let server = self.session;
-        match kind {
-            1 => {
-                let step = server.byte(driver_log::byte_of(arg, 0), out);
-                self.logged(&step, 0, out, log, at)
-            }
-            2 => {
-                let step = server.bytes(arg, out);
-                self.logged(&step, step.taken, out, log, at)
-            }
-            3 => self.logged(&server.reply(arg, out), 0, out, log, at),
-            4 => self.logged(&server.answer(b"ELM327 v1.5", arg, out), 0, out, log, at),
-            5 => self.logged(&server.reject(arg, out), 0, out, log, at),
-            6 => self.logged(&server.answer(arg, b"ELM327", out), 0, out, log, at),
-            _ => put_state(server, log, at),
-        }
+        let step = match kind {
+            1 => self.session.byte(driver_log::byte_of(arg, 0), out),
+            2 => self.session.bytes(arg, out),
+            3 => self.session.reply(arg, out),
+            4 => self.session.answer(b"ELM327 v1.5", arg, out),
+            5 => self.session.reject(arg, out),
+            6 => self.session.answer(arg, b"ELM327", out),
+            _ => return put_state(self.session, log, at),
+        };
+        self.session = step.session;
+        let code = answer_code(step.answer);
+        let taken = if kind == 2 { step.taken } else { 0 };
+        driver_log::put_call(log, at, code, taken, out, step.written)
     }
 }
 
