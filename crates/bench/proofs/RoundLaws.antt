@@ -7,7 +7,7 @@ use lib.ListN.{length, take}
 use lib.Seq.{sets, take_all, length-sets}
 use Rattle.wire.specs.Put.{Put}
 use Rattle.wire.proofs.PutLaws.{put_front}
-use Rattle.query_text.proofs.KeptLaws.{text_short}
+use Rattle.wire.proofs.BytesLaws.{held_short}
 use Rattle.server_session.specs.Session.{Session, session}
 use Rattle.client_session.specs.Session.{client}
 use Rattle.client_session.specs.Call.{ClientSaid, ClientServed, client_lent}
@@ -71,7 +71,7 @@ module _ (b : code.Bench) (command list reply store out out₁ reply₁ store₁
   told = ap (λ (v : DeliveryServed). v.served) does
 
   fits : length delivers.said.text ≤ length out
-  fits = omega (arith, small, delivered_fits send_room (client b.client) store b.lengths.now exchanges.text (omega (arith, text_short b.client.query short)))
+  fits = omega (arith, small, delivered_fits send_room (client b.client) store b.lengths.now exchanges.text (omega (arith, held_short b.client.query short)))
 
   pub round_does : RoundDoes (round (bench_of b store) command list) r (record { out = out₁; reply = reply₁; store = store₁ })
   unfolding delivered

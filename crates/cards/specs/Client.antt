@@ -78,8 +78,7 @@ client_holding n = record {
   server = nothing_learned true;
   last = record { bytes = replicate 18 0; len = 0 };
   query = record { bytes = ascii "010C" ++ replicate 14 0; len = 4 };
-  pids = 0x0C ∷ replicate 5 0;
-  pids_len = 1;
+  pids = record { bytes = 0x0C ∷ replicate 5 0; len = 1 };
   several = false;
   pending = record { under = under.Awaiting command.Query; got = n };
 }

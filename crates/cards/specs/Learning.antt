@@ -98,8 +98,7 @@ learning =
         server = record { framing = false; repeat = support.Unknown; multi_pid = support.Unknown; pid_lengths = mode01_lengths; ecu_counts = set (replicate 256 0) 0x0C 1 };
         last = record { bytes = ascii "010C" ++ replicate 14 0; len = 4 };
         query = record { bytes = ascii "010C" ++ replicate 14 0; len = 4 };
-        pids = 0x0C ∷ replicate 5 0;
-        pids_len = 1;
+        pids = record { bytes = 0x0C ∷ replicate 5 0; len = 1 };
         several = false;
         pending = record { under = under.Idle; got = 0 };
       };

@@ -32,8 +32,7 @@ server_holding last l p = record {
     linefeeds_enabled = true;
     spaces_enabled = true;
     headers_enabled = false;
-    last_obd_command = padded (ascii last);
-    last_len = length (ascii last);
+    last_obd_command = record { bytes = padded (ascii last); len = length (ascii last) };
   };
   line = padded (ascii l);
   turn = record { phase = p; len = length (ascii l) };

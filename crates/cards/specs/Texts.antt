@@ -2,12 +2,12 @@
 use Rattle.std.specs.Prelude.{true, false, List, [], ◌∷◌, ◌++◌, map, ℕ, replicate, Some, None}
 use Rattle.std.proofs.Math.Option.{none, some}
 use Rattle.wire.specs.Text.{ascii, same, begins, is_space, raised, has, high}
+use Rattle.wire.specs.Bytes.{held}
 use Rattle.hex_text.specs.Digits.{hex_digits, hex_byte, hex_bytes}
 use Rattle.hex_text.specs.Read.{digit, hex_number, pair_bytes}
 use Rattle.wire.specs.Answer.{number_of}
 use Rattle.line_list.specs.Lines.{line}
 use Rattle.query.specs.Query.{count_of, text_of_query}
-use Rattle.query_text.specs.Text.{text}
 use Rattle.reply_lines.specs.Lines.{text_lines}
 use Rattle.reply_lines.specs.Decode.{lines_of_reply}
 use Rattle.reply_lines.specs.Reader.{text_step, line_from, past_step, step_text, position_after}
@@ -34,7 +34,7 @@ texts =
     example "digits written" (hex_digits 3 0x7E8 ++ (hex_digits 3 0x00C ++ (hex_byte 0x0C ++ hex_bytes (0x41 ∷ 0xAF ∷ [])))) (ascii "7E800C0C41AF") ∷
     example "a query's text with no count, 5, 16 and 255" (map (text_of_query (0x0C ∷ [])) (map count_of (None ∷ Some 5 ∷ Some 16 ∷ Some 255 ∷ [])))
     (ascii "010C" ∷ ascii "010C 5" ∷ ascii "010C 16" ∷ ascii "010C 255" ∷ []) ∷
-    example "a kept query's text" (text (record { bytes = ascii "010C 1" ++ replicate 12 0xFF; len = 6 })) (ascii "010C 1") ∷
+    example "a kept query's text" (held {N = 18} (record { bytes = ascii "010C 1" ++ replicate 12 0xFF; len = 6 })) (ascii "010C 1") ∷
     example "the line of a reply: where it starts and ends, and where the next starts" (line_from speed_reply 0) (text_step (Some (record { start = 1; end = 7; next = 9 }))) ∷
     example "no line after it" (line_from speed_reply 9) (text_step None) ∷
     example "a reader's position and text after a step" (past_step 0 (line_from speed_reply 0) ∷ step_text speed_reply (line_from speed_reply 0)) (9 ∷ ascii "410D20") ∷

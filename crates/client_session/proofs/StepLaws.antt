@@ -4,13 +4,12 @@ use mathlib.Core.List.{List, []}
 use Rattle.std.specs.Prelude.{Result, Err}
 use Prim.Native.Nat.{ℕ, ◌≤◌}
 use native.Mathlib.Omega.{arith}
-use lib.ListN.{length, take}
-use lib.Seq.{take_all}
+use lib.ListN.{length}
 use Rattle.wire.specs.declared.Refusal.{Refusal}
 use Rattle.wire.specs.Answer.{Answer, result, refused, number}
 use Rattle.wire.specs.Put.{Put}
 use Rattle.wire.proofs.Cases.{from_no}
-use Rattle.wire.proofs.PutLaws.{put_none, put_front}
+use Rattle.wire.proofs.PutLaws.{put_none}
 use Rattle.client_session.specs.declared.ClientSession.{ClientSession}
 use Rattle.client_session.specs.declared.ClientAnswer.{ClientAnswer}
 use Rattle.client_session.specs.declared.ClientError.{ClientError}
@@ -47,10 +46,6 @@ does_end {out} p e = does_sends p e (put_none out 0)
 -- the session in other words
 pub ends_as : {c d : Client} {a : Result ClientAnswer ClientError} {n : ℕ} {r : ClientStep} → c ≡ d → Stepped c a n r → Stepped d a n r
 ends_as q p = record { answer = p.answer; written = p.written; next = p.next ∙ q }
-
--- a text that was put into an array stands at its front
-pub put_kept : {out left t : List ℕ} {r : ℕ} → Put out 0 t r left → length t ≤ length out → take r left ≡ t
-put_kept {out} {t} p h = put_front p ∙ take_all (length out) t h
 
 -- ---- which of the two numbered answers is given: neither with a result, Refused with 1 to 6, and Failed with 7 and more
 

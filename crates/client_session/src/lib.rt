@@ -13,7 +13,7 @@ ghost use Rattle.client_session.specs.Steps.{Stepped, unchanged};
 use client_command::FramingEffect;
 use query_text::QueryText;
 use server_state::{FeatureSupport, ServerState};
-use wire::Refusal;
+use wire::{Bytes, Refusal};
 
 // A command whose reply is awaited.
 #[derive(Clone, Copy)]
@@ -55,8 +55,7 @@ pub struct ClientSession {
     pub last: QueryText,
     // The query under way: its text, its PIDs, and whether it is one of `query_pids`.
     pub query: QueryText,
-    pub pids: [u8; 6],
-    pub pids_len: usize,
+    pub pids: Bytes<6>,
     pub several: bool,
     pub pending: Pending,
 }
@@ -142,10 +141,9 @@ impl ClientSession {
         ClientSession {
             want_framing: framing,
             server: ServerState::new(repeat),
-            last: QueryText::none(),
-            query: QueryText::none(),
-            pids: [0; 6],
-            pids_len: 0,
+            last: QueryText::new(),
+            query: QueryText::new(),
+            pids: Bytes::new(),
             several: false,
             pending: Pending {
                 under: Under::Idle,
@@ -198,7 +196,7 @@ impl ClientSession {
     fn forgets(mut self) -> ClientSession
         ensures { client result ≡ with_under (with_last_query (client self) []) Under.Idle 0 }
     {
-        self.last.len = 0;
+        self.last.clear();
         self.moved(Under::Idle, 0)
     }
 

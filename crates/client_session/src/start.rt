@@ -3,9 +3,9 @@
 ghost use Rattle.std.specs.Prelude.{◌≡◌, Bool, false, true, ◌&&◌, [], ◌∷◌, ℕ, ◌≤◌, length};
 ghost use Rattle.wire.specs.Steps.{settled};
 ghost use Rattle.wire.specs.Text.{ascii, same};
+ghost use Rattle.wire.specs.Bytes.{held};
 ghost use Rattle.query.specs.Query.{count_of};
 ghost use Rattle.client_command.specs.Commands.{with_cr, framing_effect};
-ghost use Rattle.query_text.specs.Text.{text};
 ghost use Rattle.server_state.specs.State.{may_try};
 ghost use Rattle.client_session.specs.Session.{Client, client, with_query, with_last_query};
 ghost use Rattle.client_session.specs.Call.{sends, client_refusing, client_lent, client_step, RefusedOrFailed};
@@ -13,7 +13,6 @@ ghost use Rattle.client_session.specs.Start.{init_says, command_says, send_query
 ghost use Rattle.client_session.specs.Steps.{Does, Early};
 
 use crate::{ClientSession, ClientStep, Command};
-use query_text::QueryText;
 use wire::Refusal;
 
 impl ClientSession {
@@ -97,7 +96,7 @@ impl ClientSession {
         if let Err(refusal) = self.command_verdict(command, out.len()) {
             return self.refused(refusal);
         }
-        self.last.len = 0;
+        self.last.clear();
         let written = client_command::put_command(out, 0, command);
         let effect = client_command::framing_effect(command);
         self.sends(Command::Raw(effect), written)
@@ -108,16 +107,15 @@ impl ClientSession {
         requires { length pids.now ≤ 6 }
         ensures { client result ≡ with_query (client self) (request pids.now (count_of count) several) }
     {
-        self.query = QueryText::of(pids, count);
-        self.pids = [0; 6];
-        self.pids_len = wire::put(&mut self.pids, 0, pids);
+        self.query = query_text::of(pids, count);
+        self.pids.set(pids);
         self.several = several;
         self
     }
 
     // Whether the query equals the last one, which a bare CR may repeat.
     fn repeats(&self) -> bool
-        ensures { result ≡ (may_try self.now.server.repeat && same (text self.now.last) (text self.now.query)) }
+        ensures { result ≡ (may_try self.now.server.repeat && same (held self.now.last) (held self.now.query)) }
     {
         self.server.repeat.may_try() && self.last.is(self.query)
     }
@@ -130,7 +128,7 @@ impl ClientSession {
             let written = wire::put_byte(out, 0, b'\r');
             return self.sends(Command::Repeat, written);
         }
-        let written = self.query.put_line(out, 0);
+        let written = query_text::put_line(self.query, out, 0);
         self.sends(Command::Query, written)
     }
 

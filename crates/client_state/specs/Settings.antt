@@ -1,5 +1,6 @@
 -- Document 01, lib.rs: "Fresh settings: echo, linefeeds, spaces on; headers off; no last command. Line ending: CR LF with linefeeds, else CR."
 use Rattle.std.specs.Prelude.{Bool, true, false, cond, List, [], ◌∷◌, ℕ, take}
+use Rattle.wire.specs.Bytes.{held}
 use Rattle.client_state.specs.declared.ClientState.{ClientState}
 
 -- The settings of a client. A command has a byte at least, so no last command is the empty one.
@@ -17,7 +18,7 @@ settings s = record {
   linefeeds = s.linefeeds_enabled;
   spaces = s.spaces_enabled;
   headers = s.headers_enabled;
-  last = take s.last_len s.last_obd_command;
+  last = held s.last_obd_command;
 }
 
 abbrev pub fresh : Settings

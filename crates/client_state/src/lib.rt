@@ -5,6 +5,8 @@ ghost use Rattle.std.specs.Prelude.{◌≡◌, length};
 ghost use Rattle.wire.specs.Put.{Put};
 ghost use Rattle.client_state.specs.Settings.{settings, fresh, line_ending, with_last};
 
+use wire::Bytes;
+
 #[derive(Clone, Copy)]
 pub struct ClientState {
     // Received bytes are sent back (ATE0, ATE1).
@@ -15,9 +17,8 @@ pub struct ClientState {
     pub spaces_enabled: bool,
     // A line starts with its header (ATH0, ATH1).
     pub headers_enabled: bool,
-    // The last OBD command replied to, which a bare carriage return repeats: the first last_len bytes, none where that is 0.
-    pub last_obd_command: [u8; 128],
-    pub last_len: usize,
+    // The last OBD command replied to, which a bare carriage return repeats; empty for none.
+    pub last_obd_command: Bytes<128>,
 }
 
 impl Default for ClientState {
@@ -30,27 +31,25 @@ impl Default for ClientState {
             linefeeds_enabled: true,
             spaces_enabled: true,
             headers_enabled: false,
-            last_obd_command: [0; 128],
-            last_len: 0,
+            last_obd_command: Bytes::new(),
         }
     }
 }
 
 impl ClientState {
-    // How many bytes of last_obd_command are the last command, whatever last_len holds.
+    // How many bytes the last command has.
     pub fn last_size(self) -> usize
         ensures { result ≡ length (settings self).last }
     {
-        self.last_len.min(128)
+        self.last_obd_command.as_slice().len()
     }
 
     // The command becomes the last one.
-    pub fn with_last(self, command: &[u8]) -> ClientState
+    pub fn with_last(mut self, command: &[u8]) -> ClientState
         ensures { settings result ≡ with_last (settings self) command.now }
     {
-        let mut next = self;
-        next.last_len = wire::put(&mut next.last_obd_command, 0, command);
-        next
+        self.last_obd_command.set(command);
+        self
     }
 }
 

@@ -152,8 +152,7 @@ fn put_pids(server: ServerState, pids: &[u8], log: &mut [u8], at: usize) -> usiz
 fn put_last(session: ClientSession, log: &mut [u8], at: usize) -> usize
     ensures { Put log.old at (text_entry (client session).last) result log.new }
 {
-    let last = session.last;
-    driver_log::put_text(log, at, &last.bytes[..last.len.min(18)])
+    driver_log::put_text(log, at, session.last.as_slice())
 }
 
 // The entry of a session's state: framing, repeat, multi-PID support, what is under way, the last query, and what is known of the PIDs in the argument.

@@ -46,7 +46,7 @@ fn phase_code(phase: Phase) -> u8
 fn put_last(state: ClientState, log: &mut [u8], at: usize) -> usize
     ensures { Put log.old at (text_entry (settings state).last) result log.new }
 {
-    driver_log::put_text(log, at, &state.last_obd_command[..state.last_size()])
+    driver_log::put_text(log, at, state.last_obd_command.as_slice())
 }
 
 fn put_line(server: ServerSession, log: &mut [u8], at: usize) -> usize

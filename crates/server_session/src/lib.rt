@@ -184,7 +184,7 @@ impl ServerSession {
             self.turn = line_awaited();
             return reply::put_text_reply(out, at, b"?", self.state.linefeeds_enabled);
         }
-        self.line = self.state.last_obd_command;
+        self.line = self.state.last_obd_command.bytes;
         self.turn = Turn {
             phase: Phase::ObdCommand,
             len: last,

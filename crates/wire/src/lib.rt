@@ -1,11 +1,12 @@
-// Bytes written into lent buffers, and texts looked at. Every writer of this library stores as far as the buffer reaches
+// Bytes written into lent buffers, texts looked at, and texts that are kept. Every writer of this library stores as far as the buffer reaches
 // and returns the position after what it stored, so writers follow one another with nothing asked in between.
 #![tactic(auto)]
 
 ghost use Rattle.wire.specs.Answer.{number};
 ghost use Rattle.wire.specs.Put.{Put};
 ghost use Rattle.wire.specs.Text.{same, begins, has, high, is_space, raised};
-ghost use Rattle.std.specs.Prelude.{[], ◌∷◌, min, ◌≡◌};
+ghost use Rattle.wire.specs.Bytes.{held};
+ghost use Rattle.std.specs.Prelude.{[], ◌∷◌, min, ◌≡◌, take};
 
 // Why a call gives no result: a case for each number of document 01, in their order.
 #[derive(Clone, Copy, PartialEq, Eq, Debug)]
@@ -146,4 +147,50 @@ pub fn at_most(n: usize, most: usize) -> usize
     ensures { result ≡ min n most }
 {
     n.min(most)
+}
+
+// The first len of the bytes, all of them where len is larger.
+#[derive(Clone, Copy)]
+pub struct Bytes<const N: usize> {
+    pub bytes: [u8; N],
+    pub len: usize,
+}
+
+impl<const N: usize> Bytes<N> {
+    // No bytes.
+    pub fn new() -> Bytes<N>
+        ensures { held result ≡ [] }
+    {
+        Bytes {
+            bytes: [0; N],
+            len: 0,
+        }
+    }
+
+    // A text takes the place of what is held, cut after N bytes.
+    #[tactic(auto, using(crate::proofs::PutLaws::put_front))]
+    pub fn set(&mut self, text: &[u8])
+        ensures { held self.new ≡ take N text.now }
+    {
+        self.len = put(&mut self.bytes, 0, text);
+    }
+
+    pub fn clear(&mut self)
+        ensures { held self.new ≡ [] }
+    {
+        self.len = 0;
+    }
+
+    pub fn as_slice(&self) -> &[u8]
+        ensures { result.now ≡ held self.now }
+    {
+        &self.bytes[..self.len.min(N)]
+    }
+
+    // Whether both hold the same text. They are copied: a session that lent its fields would itself be copied once more.
+    pub fn is(self, other: Bytes<N>) -> bool
+        ensures { result ≡ same (held self.entry) (held other.entry) }
+    {
+        same(self.as_slice(), other.as_slice())
+    }
 }

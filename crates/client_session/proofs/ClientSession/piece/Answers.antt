@@ -3,7 +3,7 @@ use mathlib.Core.Path.{◌≡◌, refl, sym}
 use native.Mathlib.Omega.{arith}
 use lib.ListN.{length}
 use borrow.Author.Rules.{rules}
-use Rattle.query_text.proofs.KeptLaws.{text_short}
+use Rattle.wire.proofs.BytesLaws.{held_short}
 use Rattle.client_session.specs.Session.{client}
 use Rattle.client_session.proofs.PieceLaws.{piece_early, piece_fits}
 use Rattle.client_session.proofs.StepLaws.{lent_as, told_refused}
@@ -20,7 +20,7 @@ returns-then-is_reset-clause-out_after c =
     let k = client a.self in
     let d = rw (sym c.if-nulls_alone.ensures, sym c.if-is_reset.ensures) at (c.in_default-piece_verdict.ensures.says k c.in-Awaiting.is) in
     let eighteen : length a.self.query.bytes ≡ 18 = search rules in
-    lent_as d c.send_setup.ensures (piece_fits k (length a.out.now) a.piece.now a.store.now (omega (arith, text_short a.self.query eighteen)))
+    lent_as d c.send_setup.ensures (piece_fits k (length a.out.now) a.piece.now a.store.now (omega (arith, held_short a.self.query eighteen)))
 
 pub returns-clause-out_after : goal.returns-clause-out_after
 returns-clause-out_after c =
@@ -28,4 +28,4 @@ returns-clause-out_after c =
     let k = client a.self in
     let d = rw (sym c.if-nulls_alone.ensures, sym c.if-is_reset.ensures) at (c.in_default-piece_verdict.ensures.says k c.in-Awaiting.is) in
     let eighteen : length a.self.query.bytes ≡ 18 = search rules in
-    lent_as d c.take.ensures.does (piece_fits k (length a.out.now) a.piece.now a.store.now (omega (arith, text_short a.self.query eighteen)))
+    lent_as d c.take.ensures.does (piece_fits k (length a.out.now) a.piece.now a.store.now (omega (arith, held_short a.self.query eighteen)))

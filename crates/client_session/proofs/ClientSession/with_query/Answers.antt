@@ -1,13 +1,13 @@
 -- `client_session::ClientSession::with_query` meets its contract.
 use mathlib.Core.Path.{◌∙◌}
+use lib.Seq.{take_all}
 use Rattle.query.specs.Query.{count_of}
 use Rattle.query_text.proofs.KeptLaws.{kept_whole}
 use Rattle.client_session.specs.Session.{client, with_query}
-use Rattle.client_session.proofs.StepLaws.{put_kept}
 use Rattle.client_session.proofs.ClientSession.with_query.Goals as goal
 
 pub returns : goal.returns
 returns c =
     let text = c.of-self.ensures ∙ kept_whole c.args.pids.now (count_of c.args.count) c.requires in
-    let pids = put_kept c.put.ensures c.requires in
+    let pids = c.set.ensures ∙ take_all 6 c.args.pids.now c.requires in
     λ i. with_query (client c.args.self) (record { text = text i; pids = pids i; several = c.args.several })

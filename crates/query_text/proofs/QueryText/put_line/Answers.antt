@@ -1,6 +1,0 @@
--- `query_text::QueryText::put_line` meets its contract.
-use Rattle.wire.proofs.PutLaws.{put_then}
-use Rattle.query_text.proofs.QueryText.put_line.Goals as goal
-
-pub returns : goal.returns
-returns c = rw c.text.ensures at (put_then c.put-at.ensures c.put_byte.ensures)
