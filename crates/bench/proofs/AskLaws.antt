@@ -27,10 +27,9 @@ use Rattle.client_session.specs.Finish.{gives_values, finish_says}
 use Rattle.client_session.proofs.StartLaws.{query_fits}
 use Rattle.client_session.proofs.FinishLaws.{read_for}
 use Rattle.bench.specs.declared.Bench as code
-use Rattle.bench.specs.declared.Round as code-round
 use Rattle.bench.specs.declared.Work.{Work}
 use Rattle.bench.specs.Run.{Round, round, onward, send_room, reply_room, values_room, start_says, with_client, asking, part_of, finished}
-use Rattle.bench.specs.Steps.{bench_of, round_of, RoundDoes, Comes, part_text, PartDoes}
+use Rattle.bench.specs.Steps.{RoundStep, bench_of, round_of, RoundDoes, Comes, part_text, PartDoes}
 use Rattle.bench.proofs.RoundLaws.{lent_length, lent_text, lent_inside}
 use Rattle.bench.proofs.OnwardLaws.{held_then, does_held, onward-held}
 
@@ -67,7 +66,7 @@ finish_room c store =
     rw (reply_room_lem c (reply_in c store) (omega (arith, length-take c.got (take 4096 store), length-take 4096 store)))
 
 -- the reply got no number, and the query is finished by the step s
-module _ (asked : code-round.Round) (w : Work) (a : ClientAnswer) (is : asked.answer ≡ Ok a) (size : length w.reply ≡ reply_room) (s : ClientStep) (left : List ℕ)
+module _ (asked : RoundStep) (w : Work) (a : ClientAnswer) (is : asked.answer ≡ Ok a) (size : length w.reply ≡ reply_room) (s : ClientStep) (left : List ℕ)
     (e : client_step s left ≡ client_lent (finish_says (length w.reply) (client asked.bench.client) w.store) w.reply) where
   abbrev says : ClientSaid
   says = finish_says values_room (client asked.bench.client) w.store
@@ -114,7 +113,7 @@ module _ (s : ClientSaid) (begun : ClientStep) (out out₁ : List ℕ) (size : l
   waiting b = record { client = begun.session; server = b.server; lengths = b.lengths }
 
   -- the command of the query, and then at most one more
-  pub ask_does : (b : code.Bench) {first r : code-round.Round} {w w₁ : Work} (list store : List ℕ) →
+  pub ask_does : (b : code.Bench) {first r : RoundStep} {w w₁ : Work} (list store : List ℕ) →
       RoundDoes (round (bench_of (waiting b) store) (take begun.written out₁) list) first w → RoundDoes (onward 1 (round_of first w) list) r w₁ →
       Comes (asking (bench_of b store) s list) r w₁
   ask_does b {first} {r} {w} list store d₁ d₂ =

@@ -17,11 +17,10 @@ use Rattle.client_session.proofs.StartLaws.{init_starts, init_fits}
 use Rattle.client_session.proofs.PieceLaws.{piece_fits}
 use Rattle.bench.specs.declared.ExchangeStep.{ExchangeStep}
 use Rattle.bench.specs.Exchange.{Exchanged, exchanged}
-use Rattle.bench.specs.declared.Round as code-round
 use Rattle.bench.specs.Run.{send_room, reply_room, fresh_store, onward, initialised}
 use Rattle.std.specs.Borrow.{Bor}
 use Rattle.bench.specs.declared.Work.{Work}
-use Rattle.bench.specs.Steps.{exchange_step, exchange_lent, round_of, reset_fresh, RoundDoes, Comes}
+use Rattle.bench.specs.Steps.{RoundStep, exchange_step, exchange_lent, round_of, reset_fresh, RoundDoes, Comes}
 use Rattle.bench.proofs.RoundLaws.{lent_text, lent_inside, reply-text, reply-next}
 use Rattle.bench.proofs.AskLaws.{start_text, start_size, start_inside}
 use Rattle.bench.proofs.OnwardLaws.{held_then, does_held, onward-held}
@@ -92,7 +91,7 @@ module _ (repeat : Bool) (out out₁ : List ℕ) (fresh : ClientSession) (i : Cl
         }
 
 -- and then the other commands
-pub initialised_does : (repeat : Bool) (first r : code-round.Round) (w w₁ : Work) (lengths : List ℕ) → RoundDoes (reset_fresh repeat lengths) first w →
+pub initialised_does : (repeat : Bool) (first r : RoundStep) (w w₁ : Work) (lengths : List ℕ) → RoundDoes (reset_fresh repeat lengths) first w →
     RoundDoes (onward 5 (round_of first w) []) r w₁ → Comes (initialised repeat lengths) r w₁
 unfolding initialised
 initialised_does repeat first r w w₁ lengths a b =

@@ -16,7 +16,7 @@ use Rattle.wire.proofs.Cases.{by_test, from_no}
 use Rattle.wire.proofs.PutLaws.{put_then}
 use Rattle.client_session.specs.Session.{client}
 use Rattle.bench.specs.Script.{Query, query_format}
-use Rattle.bench.specs.Steps.{query_step, query_at}
+use Rattle.bench.specs.Steps.{PartStep, query_step, query_at}
 use Rattle.bench.specs.declared.QueryPlace.{QueryPlace}
 use Rattle.std.specs.Prelude.{Ok, Err, Some, None}
 use Rattle.std.specs.Prelude as rust
@@ -27,7 +27,6 @@ use Rattle.bench.proofs.QueryLaws.{query_lawful, query_some}
 use Rattle.group.proofs.WalkLaws.{Ahead, ahead_end, ahead_none, ahead_thing}
 use Rattle.bench.specs.declared.Bench as code
 use Rattle.bench.specs.declared.BenchRun.{BenchRun}
-use Rattle.bench.specs.declared.PartStep.{PartStep}
 use Rattle.bench.specs.declared.Work.{Work}
 use Rattle.bench.specs.Run.{Part, start_says, asking, finished, part, Run, after, asked, run_answer, Recorded, recorded, run_lent}
 use Rattle.bench.specs.Steps.{bench_of, part_text, PartDoes, IsScript, or_none, queries_of, standing, added, lent_from}

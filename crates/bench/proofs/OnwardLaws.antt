@@ -8,10 +8,9 @@ use native.Mathlib.Omega.{arith}
 use lib.Dec.{ltb}
 use lib.ListN.{length}
 use borrow.Author.Tests.{lt-ltb, le-ltb}
-use Rattle.bench.specs.declared.Round as code-round
 use Rattle.bench.specs.declared.Work.{Work}
 use Rattle.bench.specs.Run.{Round, round, later, onward}
-use Rattle.bench.specs.Steps.{round_of, RoundDoes}
+use Rattle.bench.specs.Steps.{RoundStep, round_of, RoundDoes}
 
 -- Two rounds with the same commands to come.
 pub record Held (t u : Round) : Type 0 where
@@ -26,10 +25,10 @@ pub held_same : (t : Round) → Held t t
 held_same t = record { answer = refl; text = refl; bench = refl }
 
 -- what a round does is what the code holds
-pub does_held : {t : Round} {r : code-round.Round} {w : Work} → RoundDoes t r w → Held t (round_of r w)
+pub does_held : {t : Round} {r : RoundStep} {w : Work} → RoundDoes t r w → Held t (round_of r w)
 does_held d = record { answer = sym d.answer; text = sym d.text; bench = sym d.bench }
 
-pub held_does : {t : Round} {r : code-round.Round} {w : Work} → Held t (round_of r w) → r.written ≤ length w.out → RoundDoes t r w
+pub held_does : {t : Round} {r : RoundStep} {w : Work} → Held t (round_of r w) → r.written ≤ length w.out → RoundDoes t r w
 held_does h inside = record { answer = sym h.answer; text = sym h.text; bench = sym h.bench; inside = inside }
 
 sending_held : (b : Bool) {t u x y : Round} → Held t u → Held x y → Held (cond b x t) (cond b y u)

@@ -16,9 +16,8 @@ use Rattle.bench.specs.Exchange.{Exchanged, exchanged}
 use Rattle.bench.proofs.ExchangeLaws.{exchanged_fits, exchange_written}
 use Rattle.bench.proofs.DeliverLaws.{delivered_fits}
 use Rattle.bench.specs.declared.Bench as code
-use Rattle.bench.specs.declared.Round as code-round
 use Rattle.bench.specs.Run.{send_room, reply_room, round}
-use Rattle.bench.specs.Steps.{ExchangeServed, exchange_step, exchange_lent, DeliveryServed, Delivered, delivered, delivery_step, delivery_lent, bench_of, RoundDoes}
+use Rattle.bench.specs.Steps.{RoundStep, ExchangeServed, exchange_step, exchange_lent, DeliveryServed, Delivered, delivered, delivery_step, delivery_lent, bench_of, RoundDoes}
 
 -- a text that fits stands at the front of a buffer
 pub front : (buffer text : List ℕ) → length text ≤ length buffer → take (length text) (sets buffer 0 text) ≡ text
@@ -51,7 +50,7 @@ module _ (s : Session) (command list reply reply₁ : List ℕ) (x : ExchangeSte
   reply_inside large = omega (arith, exchange_written s command list reply reply₁ x e)
 
 -- the client's bytes go to the server, and what it sends comes back in pieces
-module _ (b : code.Bench) (command list reply store out out₁ reply₁ store₁ : List ℕ) (x : ExchangeStep) (r : code-round.Round)
+module _ (b : code.Bench) (command list reply store out out₁ reply₁ store₁ : List ℕ) (x : ExchangeStep) (r : RoundStep)
     (short : length b.client.query.bytes ≡ 18) (small : length out ≡ send_room) (large : length reply ≡ reply_room)
     (heard : exchange_step x reply₁ ≡ exchange_lent (exchanged (length reply) (session b.server) command list) reply)
     (given : delivery_step r store₁ out₁ ≡ delivery_lent (delivered (length out) (client b.client) store b.lengths.now (take x.written reply₁)) out)

@@ -13,9 +13,8 @@ use Rattle.bench.specs.declared.Work.{Work}
 use Rattle.client_session.specs.declared.ClientAnswer.{ClientAnswer}
 use Rattle.client_session.specs.declared.ClientError.{ClientError}
 use Rattle.bench.specs.declared.BenchRun.{BenchRun}
-use Rattle.bench.specs.declared.Round as code-round
 use Rattle.bench.specs.Run.{Round, Run, ended, after, asked, initialised, run_says, recorded, run_lent}
-use Rattle.bench.specs.Steps.{bench_of, Comes, IsScript, queries_of}
+use Rattle.bench.specs.Steps.{RoundStep, bench_of, Comes, IsScript, queries_of}
 
 -- by what the initialisation came to
 abbrev begun : ℕ → Round → Answer Progress → List Query → Run
@@ -31,7 +30,7 @@ module _ (repeat : Bool) (lengths s buffer : List ℕ) where
   script_refused q r e k = rw (k, e)
 
   -- it gets none, and the initialisation comes to a turn
-  module _ (is : IsScript s) (t : code-round.Round) (w : Work) (does : Comes (initialised repeat lengths) t w) where
+  module _ (is : IsScript s) (t : RoundStep) (w : Work) (does : Comes (initialised repeat lengths) t w) where
     begins : says ≡ begun (length buffer) (initialised repeat lengths) (client_answer t.answer) (queries_of s)
     unfolding run_says
     begins = rw (is.1, does.answer)

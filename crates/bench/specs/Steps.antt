@@ -10,6 +10,8 @@ use Rattle.group.specs.Group.{group_bytes}
 use Rattle.group.specs.Format.{step_of, read_row, answer_of}
 use Rattle.line_list.specs.Lines.{lines_bytes, line_format}
 use Rattle.server_session.specs.Session.{Session, session, fresh_session}
+use Rattle.client_session.specs.declared.ClientAnswer.{ClientAnswer}
+use Rattle.client_session.specs.declared.ClientError.{ClientError}
 use Rattle.client_session.specs.Session.{Client, client, fresh_client}
 use Rattle.client_session.specs.Call.{ClientSaid, ClientServed, client_lent, client_answer}
 use Rattle.client_session.specs.Start.{init_says}
@@ -20,8 +22,7 @@ use Rattle.bench.specs.Deliver.{pieces}
 use Rattle.bench.specs.Script.{Query, query_format, script}
 use Rattle.bench.specs.declared.QueryPlace as code-place
 use Rattle.bench.specs.declared.Bench as code
-use Rattle.bench.specs.declared.PartStep.{PartStep}
-use Rattle.bench.specs.declared.Round as code-round
+use Rattle.bench.specs.declared.Step.{Step}
 use Rattle.bench.specs.declared.Work.{Work}
 use Rattle.bench.specs.Run.{Bench, Round, Part, Run, Recorded, send_room, reply_room, reset, ended, after}
 
@@ -55,7 +56,14 @@ pub record DeliveryServed : Type 0 where
   pub store : List ℕ
   pub lengths : List ℕ
 
-abbrev pub delivery_step : code-round.Round → List ℕ → List ℕ → DeliveryServed
+-- the run after a command, and after a query, as the code has it
+abbrev pub RoundStep : Type 0
+RoundStep = Step (rust.Result ClientAnswer ClientError)
+
+abbrev pub PartStep : Type 0
+PartStep = Step (rust.Result ℕ Refusal)
+
+abbrev pub delivery_step : RoundStep → List ℕ → List ℕ → DeliveryServed
 delivery_step r store out = record {
   served = record { answer = client_answer r.answer; written = r.written; next = client r.bench.client; out = out };
   store = store;
@@ -70,7 +78,7 @@ abbrev pub bench_of : code.Bench → List ℕ → Bench
 bench_of b store = record { client = client b.client; store = store; server = session b.server; lengths = b.lengths.now }
 
 -- a round as the code holds it; it keeps no list of the commands handed out
-abbrev pub round_of : code-round.Round → Work → Round
+abbrev pub round_of : RoundStep → Work → Round
 round_of r w = record { answer = client_answer r.answer; text = take r.written w.out; bench = bench_of r.bench w.store; handed = [] }
 
 -- a fresh client and a fresh server after ATZ
@@ -80,14 +88,14 @@ reset_fresh repeat lengths =
     reset i (exchanged reply_room fresh_session i.text []) lengths
 
 -- A round does what is said.
-pub record RoundDoes (t : Round) (r : code-round.Round) (w : Work) : Type 0 where
+pub record RoundDoes (t : Round) (r : RoundStep) (w : Work) : Type 0 where
   pub answer : client_answer r.answer ≡ t.answer
   pub text : take r.written w.out ≡ t.text
   pub bench : bench_of r.bench w.store ≡ t.bench
   pub inside : r.written ≤ length w.out
 
 -- The same where nothing more is to be sent.
-pub record Comes (t : Round) (r : code-round.Round) (w : Work) : Type 0 where
+pub record Comes (t : Round) (r : RoundStep) (w : Work) : Type 0 where
   pub answer : client_answer r.answer ≡ t.answer
   pub bench : bench_of r.bench w.store ≡ t.bench
 

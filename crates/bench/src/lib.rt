@@ -80,24 +80,19 @@ struct ExchangeStep {
     session: ServerSession,
 }
 
-// Where the run stands after a command.
+// Where the run stands after a step.
 #[derive(Clone, Copy)]
-struct Round<'a> {
-    // What the reply said to the client.
-    answer: Result<ClientAnswer, ClientError>,
-    // How many bytes of out the client sends next.
+struct Step<'a, A> {
+    answer: A,
     written: usize,
     bench: Bench<'a>,
 }
 
-#[derive(Clone, Copy)]
-struct PartStep<'a> {
-    // How many values a query gave, or the number that ends the run.
-    answer: Result<usize, Refusal>,
-    // How many bytes the values take.
-    written: usize,
-    bench: Bench<'a>,
-}
+// After a command: what the reply said to the client, and how many bytes of out it sends next.
+type Round<'a> = Step<'a, Result<ClientAnswer, ClientError>>;
+
+// After a query: how many values it gave, or the number that ends the run, and how many bytes of reply they take.
+type PartStep<'a> = Step<'a, Result<usize, Refusal>>;
 
 fn refused(refusal: Refusal, written: usize) -> BenchRun
     ensures { result ≡ record { answer = Err refusal; written = written } }
