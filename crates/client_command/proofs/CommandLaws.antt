@@ -1,13 +1,13 @@
 -- Laws of the commands' texts.
 use mathlib.Core.Path.{◌≡◌, refl, sym, ap, ◌∙◌}
-use mathlib.Core.Bool.{Bool, true, false, cond}
-use mathlib.Core.List.{List, [], ◌∷◌, ◌++◌, map}
+use mathlib.Core.Bool.{Bool, true, false}
+use mathlib.Core.List.{List, [], ◌∷◌, map}
 use Prim.Native.Nat.{ℕ, zero, suc, ◌+◌, ◌-◌, ◌≤◌}
 use native.Mathlib.Omega.{arith}
 use lib.Dec.{eqb}
 use lib.ListN.{length, get_or, length-append, drop_of_length-le}
 use borrow.Author.Tests.{eq-eqb, ne_eqb, eqb-true, eqb-false}
-use Rattle.wire.specs.Text.{ascii, raised}
+use Rattle.wire.specs.Text.{raised}
 use Rattle.wire.proofs.Cases.{by_test, from_no}
 use Rattle.wire.proofs.TextLaws.{same_self, same_true}
 use Rattle.std.specs.Prelude.{IsTrue, ◌↔◌}
