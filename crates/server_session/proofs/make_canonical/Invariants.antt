@@ -10,6 +10,6 @@ use Rattle.server_session.proofs.make_canonical.Given as goal
 abbrev pub invariant-loop-i : goal.invariant-loop-i
 invariant-loop-i l = record {
   below : l.n ≤ l.i;
-  size : length l.line.bytes ≡ 128;
+  long : l.size ≤ length l.line.bytes;
   made : take l.n l.line.bytes ++ canonical (drop l.i (take l.size l.line.bytes)) ≡ canonical (held l.initial.line);
 }
