@@ -34,8 +34,8 @@ server_holding last l p = record {
     headers_enabled = false;
     last_obd_command = record { bytes = padded (ascii last); len = length (ascii last) };
   };
-  line = padded (ascii l);
-  turn = record { phase = p; len = length (ascii l) };
+  line = record { bytes = padded (ascii l); len = length (ascii l) };
+  phase = p;
 }
 
 -- the session after a command line, and after its reply of one line

@@ -52,7 +52,7 @@ fn put_last(state: ClientState, log: &mut [u8], at: usize) -> usize
 fn put_line(server: ServerSession, log: &mut [u8], at: usize) -> usize
     ensures { Put log.old at (text_entry (session server).line) result log.new }
 {
-    driver_log::put_text(log, at, &server.line[..server.command_size()])
+    driver_log::put_text(log, at, server.line.as_slice())
 }
 
 // The entry of a session's state: the four settings, the phase, the last command, and the line as far as it is read or the command handed out.
@@ -65,7 +65,7 @@ fn put_state(server: ServerSession, log: &mut [u8], at: usize) -> usize
         driver_log::flag(state.linefeeds_enabled),
         driver_log::flag(state.spaces_enabled),
         driver_log::flag(state.headers_enabled),
-        phase_code(server.turn.phase),
+        phase_code(server.phase),
     ];
     let at = wire::put(log, at, &first);
     let at = put_last(state, log, at);

@@ -36,15 +36,15 @@ use Rattle.server_session.specs.Replies.{line_awaited, at_answered, answer_says,
 
 -- the step that sends what was written, with some settings, and the one that is refused
 abbrev pub sent_step : ClientState → List ℕ → ℕ → ServerStep
-sent_step state line written = record { answer = Ok Reading; taken = 0; written = written; session = record { state = state; line = line; turn = record { phase = Reading; len = 0 } } }
+sent_step state bytes written = record { answer = Ok Reading; taken = 0; written = written; session = record { state = state; line = record { bytes = bytes; len = 0 }; phase = Reading } }
 
 abbrev pub refused_step : ServerSession → Refusal → ServerStep
 refused_step self r = record { answer = Err r; taken = 0; written = 0; session = self }
 
 -- a text that fits is sent whole
-pub sent : (state : ClientState) (line text : List ℕ) {out left : List ℕ} {w : ℕ} → Put out 0 text w left → length text ≤ length out →
-    server_step (sent_step state line w) left ≡ server_lent (line_awaited (settings state) text) out
-sent state line text {out} {left} {w} p h =
+pub sent : (state : ClientState) (bytes text : List ℕ) {out left : List ℕ} {w : ℕ} → Put out 0 text w left → length text ≤ length out →
+    server_step (sent_step state bytes w) left ≡ server_lent (line_awaited (settings state) text) out
+sent state bytes text {out} {left} {w} p h =
     let all : w ≡ length text = omega (arith, put_whole_lem p (omega arith)) in
     rw (all, p.bytes)
 
@@ -75,12 +75,12 @@ module _ (self : ServerSession) (ati device : List ℕ) (state : ClientState) (k
     (s : settings state ≡ kind_settings (at_kind (session self).line) (settings self.state)) (k : kind ≡ at_kind (session self).line) where
   pub at_sent : {out left : List ℕ} {w : ℕ} → length (at_answered (session self) ati device).text ≤ length out →
       Put out 0 (chip_reply (settings state).linefeeds (kind_lines ati device kind)) w left →
-      server_step (sent_step state self.line w) left ≡ server_lent (at_answered (session self) ati device) out
+      server_step (sent_step state self.line.bytes w) left ≡ server_lent (at_answered (session self) ati device) out
   at_sent {out} {left} {w} fits p =
       let same : line_awaited (settings state) (chip_reply (settings state).linefeeds (kind_lines ati device kind)) ≡ at_answered (session self) ati device =
       λ t. line_awaited (s t) (chip_reply (s t).linefeeds (kind_lines ati device (k t))) in
       let long = ap (λ (d : ServerSaid). length d.text) same in
-      sent state self.line (chip_reply (settings state).linefeeds (kind_lines ati device kind)) p (omega arith) ∙ ap (λ d. server_lent d out) same
+      sent state self.line.bytes (chip_reply (settings state).linefeeds (kind_lines ati device kind)) p (omega arith) ∙ ap (λ d. server_lent d out) same
 
 -- how long a reply of one line is, exactly
 pub one_size : (linefeeds : Bool) (t : List ℕ) → length (chip_reply linefeeds (t ∷ [])) ≡ length t + cond linefeeds 5 3
@@ -88,7 +88,7 @@ one_size true t = simp length-append (omega arith)
 one_size false t = simp length-append (omega arith)
 
 -- a reply to a line list, by what `write_reply` answered
-module _ (self : ServerSession) (list : List ℕ) (out left : List ℕ) (turn : is_obd self.turn.phase ≡ true) where
+module _ (self : ServerSession) (list : List ℕ) (out left : List ℕ) (turn : is_obd self.phase ≡ true) where
   abbrev s : Session
   s = session self
 
@@ -114,13 +114,13 @@ module _ (self : ServerSession) (list : List ℕ) (out left : List ℕ) (turn : 
 
   pub reply-sent : (n : ℕ) (state : ClientState) → count_written (Ok n) left ≡ R.replied lf sp hd list out →
       settings state ≡ with_last s.state s.line →
-      server_step (sent_step state self.line n) left ≡ server_lent (reply_says (length out) s list) out
+      server_step (sent_step state self.line.bytes n) left ≡ server_lent (reply_says (length out) s list) out
   unfolding reply_says unless
   reply-sent n state q k =
       let (ls, rest, g, fits, p) = written_told lf sp hd list out q in
       let text = reply_text lf sp hd ls in
       let e : reply_says (length out) s list ≡ obd_replied s ls = rw (turn, g, le-ltb (length out) (length text) fits) in
-      sent state self.line text p fits ∙ ap (λ x. server_lent (line_awaited x text) out) k ∙ ap (λ d. server_lent d out) (sym e)
+      sent state self.line.bytes text p fits ∙ ap (λ x. server_lent (line_awaited x text) out) k ∙ ap (λ d. server_lent d out) (sym e)
 
 -- What the contracts give a caller: the bytes to send stand inside the lent buffer.
 within : (d : ServerSaid) (out left : List ℕ) (r : ServerStep) → length d.text ≤ length out → server_step r left ≡ server_lent d out → r.written ≤ length out

@@ -17,6 +17,7 @@ use Rattle.std.proofs.lemmas.List.Sums.{prefix_len-le-length}
 use Rattle.wire.proofs.ListLaws.{take_min}
 use Rattle.wire.specs.Put.{Put}
 use Rattle.wire.specs.Text.{any}
+use Rattle.wire.specs.Bytes.{held}
 use Rattle.wire.specs.declared.Refusal.{Refusal}
 use Rattle.wire.proofs.Cases.{by_test}
 use Rattle.wire.proofs.PutLaws.{put_then, put_whole_lem, put_length, put_inside}
@@ -59,7 +60,7 @@ fits_less {s} {left} {free} {most} n h f = record {
     echo_most false m n h = omega arith
 
 -- the run that stands at the front of what fits
-module _ (self : ServerSession) (input : List ℕ) (i : ℕ) (out : List ℕ) (at : ℕ) {m n most free : ℕ} (size : length self.line ≡ 128) (f : RunFits (session self) (length input - i) free most)
+module _ (self : ServerSession) (input : List ℕ) (i : ℕ) (out : List ℕ) (at : ℕ) {m n most free : ℕ} (size : length self.line.bytes ≡ 128) (f : RunFits (session self) (length input - i) free most)
     (e : m ≡ most) (room : free ≡ length out - at) (k : n ≡ plain_size (take m (drop i input))) where
   short : n ≤ most
   short = omega (arith, k, prefix_len-le-length (λ b. not (is_special b)) (take m (drop i input)), length-take m (drop i input))
@@ -70,23 +71,23 @@ module _ (self : ServerSession) (input : List ℕ) (i : ℕ) (out : List ℕ) (a
   plain : any is_special (take n (drop i input)) ≡ false
   plain = let front = plain_front (take m (drop i input)) in rw (← one) (rw (← k) at front)
 
-  line : {l : List ℕ} {end : ℕ} → Put self.line self.turn.len (take n (take m (drop i input))) end l → take (self.turn.len + n) l ≡ take self.turn.len self.line ++ take n (drop i input)
+  line : {l : List ℕ} {end : ℕ} → Put self.line.bytes self.line.len (take n (take m (drop i input))) end l → take (self.line.len + n) l ≡ held self.line ++ take n (drop i input)
   line {l} p =
       let text = take n (drop i input) in
       let long : length text ≡ n = omega (arith, short, length-take n (drop i input), length-drop i input, f.there) in
-      let all = joins self.line text self.turn.len (omega (arith, f.line, short, long, size)) in
+      let all = joins self.line.bytes text self.line.len (omega (arith, f.line, short, long, size)) in
       rw (p.bytes, one) (rw long at all)
 
-  pub ran_front : {l o : List ℕ} {end next : ℕ} → Put self.line self.turn.len (take n (take m (drop i input))) end l →
+  pub ran_front : {l o : List ℕ} {end next : ℕ} → Put self.line.bytes self.line.len (take n (take m (drop i input))) end l →
       Put out at (cond self.state.echo_enabled (take n (take m (drop i input))) []) next o →
       Ran (session self) input i out at (record { next = i + n; at = next })
-      (session (record { state = self.state; line = l; turn = record { phase = self.turn.phase; len = self.turn.len + n } })) o
+      (session (record { state = self.state; line = record { bytes = l; len = self.line.len + n }; phase = self.phase })) o
   ran_front p q = record {
     count = n;
     ends = refl;
     fits = rw room at (fits_less n short f);
     plain = plain;
-    joins = λ j. with_line (session self) (line p j) self.turn.phase;
+    joins = λ j. with_line (session self) (line p j) self.phase;
     sent = rw one at q;
   }
 
@@ -184,8 +185,8 @@ module _ (input : List ℕ) (s : Session) (i at : ℕ) (out : List ℕ) (inside 
           says = rw (says, room, ← takes.after) (sym (served_after i 1 h takes.text fit));
         }
 
-    pub byte_stop : (self : ServerSession) → Takes said out at end (session self) o → is_reading self.turn.phase ≡ false →
-        server_step (record { answer = Ok self.turn.phase; taken = i + 1; written = end; session = self }) o ≡ served_from i at (bytes_say (length out - at) s (drop i input)) out
+    pub byte_stop : (self : ServerSession) → Takes said out at end (session self) o → is_reading self.phase ≡ false →
+        server_step (record { answer = Ok self.phase; taken = i + 1; written = end; session = self }) o ≡ served_from i at (bytes_say (length out - at) s (drop i input)) out
     byte_stop self takes e =
         let ends : end ≡ at + length said.text = put_whole_lem takes.text fit in
         rw (stops (ap goes_on takes.answer ∙ e))
@@ -198,6 +199,6 @@ module _ (input : List ℕ) (s : Session) (i at : ℕ) (out : List ℕ) (inside 
 
 -- no byte is left
 pub bytes_end : (room : ℕ) (self : ServerSession) (input out : List ℕ) (i at : ℕ) → length input ≤ i →
-    server_step (record { answer = Ok self.turn.phase; taken = i; written = at; session = self }) out ≡ served_from i at (bytes_say room (session self) (drop i input)) out
+    server_step (record { answer = Ok self.phase; taken = i; written = at; session = self }) out ≡ served_from i at (bytes_say room (session self) (drop i input)) out
 unfolding bytes_say
 bytes_end room self input out i at h = rw (drop_of_length-le input h) (simp add-zero)

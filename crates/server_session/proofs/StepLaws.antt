@@ -65,7 +65,7 @@ accepts room s b e = let o = open_of room s b e in record { turn = o.turn; short
 -- A byte from the front of the buffer on, whose text fits
 module _ (s : Session) (b : ℕ) (out : List ℕ) where
   pub takes_lent : (self : ServerSession) {end : ℕ} {o : List ℕ} → Takes (byte_says (length out - 0) s b) out 0 end (session self) o →
-      server_step (record { answer = Ok self.turn.phase; taken = 1; written = end; session = self }) o ≡ server_lent (byte_says (length out) s b) out
+      server_step (record { answer = Ok self.phase; taken = 1; written = end; session = self }) o ≡ server_lent (byte_says (length out) s b) out
   takes_lent self {end} {o} q₀ =
       let q : Takes (byte_says (length out) s b) out 0 end (session self) o = rw (← sub-zero (length out)) q₀ in
       let w : end ≡ length (byte_says (length out) s b).text = omega (arith, put_whole_lem q.text (omega (arith, (text_short (length out) s b).1))) in

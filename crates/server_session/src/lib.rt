@@ -4,17 +4,18 @@
 
 mod replies;
 
-ghost use Rattle.std.specs.Prelude.{◌≡◌, cond, ◌∷◌, [], ◌-◌, ◌≤◌, length, take};
+ghost use Rattle.std.specs.Prelude.{◌≡◌, cond, ◌∷◌, [], ◌+◌, ◌-◌, ◌≤◌, length};
 ghost use Rattle.wire.specs.declared.Refusal.{Refusal};
 ghost use Rattle.wire.specs.Steps.{settled};
 ghost use Rattle.wire.specs.Put.{Put};
+ghost use Rattle.wire.specs.Bytes.{held};
 ghost use Rattle.server_session.specs.Session.{session, fresh_session};
 ghost use Rattle.server_session.specs.Call.{server_refusing, server_step, server_lent};
 ghost use Rattle.server_session.specs.Bytes.{canonical, command_phase, empty_line, line_end, byte_taken, byte_says, bytes_say};
 ghost use Rattle.server_session.specs.Steps.{is_special, plain_size, Accepts, Takes, ByteDoes, RunFits, Ran};
 
 use client_state::ClientState;
-use wire::Refusal;
+use wire::{Bytes, Refusal};
 
 // Who speaks next.
 #[derive(Clone, Copy, PartialEq, Eq)]
@@ -27,19 +28,12 @@ pub enum Phase {
     ObdCommand,
 }
 
-// Whose turn it is, and how many bytes of line are the line as far as it is read, or the command handed out.
-#[derive(Clone, Copy)]
-pub struct Turn {
-    pub phase: Phase,
-    pub len: usize,
-}
-
 #[derive(Clone, Copy)]
 pub struct ServerSession {
     pub state: ClientState,
-    // The line as far as it is read, or the command handed out: its first turn.len bytes.
-    pub line: [u8; 128],
-    pub turn: Turn,
+    // The line as far as it is read, or the command handed out.
+    pub line: Bytes<128>,
+    pub phase: Phase,
 }
 
 // What a call did.
@@ -61,16 +55,6 @@ struct Run {
     at: usize,
 }
 
-// No command is handed out, and no byte read.
-fn line_awaited() -> Turn
-    ensures { result ≡ record { phase = Phase.Reading; len = 0 } }
-{
-    Turn {
-        phase: Phase::Reading,
-        len: 0,
-    }
-}
-
 // Whether a byte does more than join the line.
 #[tactic(auto, unfolding(crate::specs::Steps::is_special))]
 fn is_special(byte: u8) -> bool
@@ -86,21 +70,28 @@ fn plain_size(bytes: &[u8]) -> usize
     bytes.iter().take_while(|b| !is_special(**b)).count()
 }
 
-// Makes the first size bytes of a line their command, in place: how many bytes it has.
-fn make_canonical(line: &mut [u8; 128], size: usize) -> usize
-    requires { size ≤ 128 }
-    ensures made { take result line.new ≡ canonical (take size line.old) }
-    ensures within { result ≤ size }
+// Makes a line its command, in place.
+fn make_canonical(line: &mut Bytes<128>)
+    ensures { held line.new ≡ canonical (held line.old) }
 {
+    let size = line.as_slice().len();
     let mut n: usize = 0;
     for i in 0..size {
-        let b = line[i];
+        let b = line.bytes[i];
         if !wire::is_space(b) {
-            line[n] = wire::raise(b);
+            line.bytes[n] = wire::raise(b);
             n += 1;
         }
     }
-    n
+    line.len = n;
+}
+
+// How many bytes may still join a line.
+#[tactic(auto, using(wire::proofs::BytesLaws::held_short))]
+fn places_left(line: &Bytes<128>) -> usize
+    ensures { length (held line.now) + result ≡ 128 }
+{
+    128usize.saturating_sub(line.len)
 }
 
 // The kind of a command.
@@ -130,16 +121,9 @@ impl ServerSession {
     {
         ServerSession {
             state: ClientState::default(),
-            line: [0; 128],
-            turn: line_awaited(),
+            line: Bytes::new(),
+            phase: Phase::Reading,
         }
-    }
-
-    // How many bytes of line are the line as far as it is read, or the command handed out, whatever len holds.
-    pub fn command_size(self) -> usize
-        ensures { result ≡ length (session self).line }
-    {
-        self.turn.len.min(128)
     }
 
     // What `bytes` did.
@@ -159,7 +143,7 @@ impl ServerSession {
     fn byte_verdict(&self, b: u8, room: usize) -> Result<(), Refusal>
         ensures { byte_says room (session self.now) b ≡ settled result (server_refusing (session self.now)) (byte_taken (session self.now) b) }
     {
-        if self.turn.phase != Phase::Reading {
+        if self.phase != Phase::Reading {
             return Err(Refusal::OutOfTurn);
         }
         if room < 8 {
@@ -169,7 +153,7 @@ impl ServerSession {
             return Err(Refusal::ByteNotAscii);
         }
         // CR and LF need no place in the line.
-        if 128 <= self.turn.len && b != b'\r' && b != b'\n' {
+        if places_left(&self.line) == 0 && b != b'\r' && b != b'\n' {
             return Err(Refusal::LineFull);
         }
         Ok(())
@@ -179,16 +163,13 @@ impl ServerSession {
     fn end_empty(&mut self, out: &mut [u8], at: usize) -> usize
         ensures { Takes (empty_line (session self.old) [] (session self.old).state.last) out.old at result (session self.new) out.new }
     {
-        let last = self.state.last_size();
-        if last == 0 {
-            self.turn = line_awaited();
+        if self.state.last_size() == 0 {
+            self.line.clear();
+            self.phase = Phase::Reading;
             return reply::put_text_reply(out, at, b"?", self.state.linefeeds_enabled);
         }
-        self.line = self.state.last_obd_command.bytes;
-        self.turn = Turn {
-            phase: Phase::ObdCommand,
-            len: last,
-        };
+        self.line = self.state.last_obd_command;
+        self.phase = Phase::ObdCommand;
         at
     }
 
@@ -196,15 +177,12 @@ impl ServerSession {
     fn end_line(&mut self, out: &mut [u8], at: usize) -> usize
         ensures { Takes (line_end (session self.old) [] (canonical (session self.old).line)) out.old at result (session self.new) out.new }
     {
-        let size = self.command_size();
-        let len = make_canonical(&mut self.line, size);
-        if len == 0 {
+        make_canonical(&mut self.line);
+        let command = self.line.as_slice();
+        if command.is_empty() {
             return self.end_empty(out, at);
         }
-        self.turn = Turn {
-            phase: command_phase(&self.line[..len]),
-            len,
-        };
+        self.phase = command_phase(command);
         at
     }
 
@@ -220,8 +198,8 @@ impl ServerSession {
         if b == b'\n' {
             return end;
         }
-        self.line[self.turn.len] = b;
-        self.turn.len += 1;
+        self.line.bytes[self.line.len] = b;
+        self.line.len += 1;
         end
     }
 
@@ -237,10 +215,10 @@ impl ServerSession {
     fn run_room(&self, left: usize, room: usize) -> usize
         ensures { RunFits (session self.now) left room result }
     {
-        if self.turn.phase != Phase::Reading || room < 8 {
+        let most = left.min(places_left(&self.line));
+        if self.phase != Phase::Reading || room < 8 {
             return 0;
         }
-        let most = left.min(128usize.saturating_sub(self.turn.len));
         if self.state.echo_enabled {
             return most.min(room - 8);
         }
@@ -257,8 +235,8 @@ impl ServerSession {
         let run = &input[i..i + most];
         let n = plain_size(run);
         let run = &run[..n];
-        wire::put(&mut self.line, self.turn.len, run);
-        self.turn.len += n;
+        wire::put(&mut self.line.bytes, self.line.len, run);
+        self.line.len += n;
         Run {
             next: i + n,
             at: put_echo(out, at, self.state.echo_enabled, run),
@@ -271,7 +249,7 @@ impl ServerSession {
         ensures refused_unchanged { ((q : Refusal) → result.answer ≡ Err q → result.session ≡ self) }
     {
         let (answer, taken, written) = match self.take_byte(b, out, 0) {
-            Ok(end) => (Ok(self.turn.phase), 1, end),
+            Ok(end) => (Ok(self.phase), 1, end),
             Err(refusal) => (Err(refusal), 0, 0),
         };
         ServerStep {
@@ -295,15 +273,15 @@ impl ServerSession {
             i = run.next;
             at = run.at;
             if input.len() <= i {
-                return self.step(Ok(self.turn.phase), i, at);
+                return self.step(Ok(self.phase), i, at);
             }
             match self.take_byte(input[i], out, at) {
                 Ok(end) => at = end,
                 Err(refusal) => return self.step(Err(refusal), i, at),
             }
             i += 1;
-            if self.turn.phase != Phase::Reading {
-                return self.step(Ok(self.turn.phase), i, at);
+            if self.phase != Phase::Reading {
+                return self.step(Ok(self.phase), i, at);
             }
         }
     }

@@ -7,9 +7,9 @@ ghost use Rattle.reply.specs.Shape.{chip_reply};
 ghost use Rattle.at_command.specs.Dialect.{kind_lines};
 ghost use Rattle.server_session.specs.Session.{session};
 ghost use Rattle.server_session.specs.Call.{server_refusing, server_step, server_lent};
-ghost use Rattle.server_session.specs.Replies.{line_awaited as awaited, answer_says, at_answered, reply_says, reject_says};
+ghost use Rattle.server_session.specs.Replies.{line_awaited, answer_says, at_answered, reply_says, reject_says};
 
-use crate::{Phase, ServerSession, ServerStep, line_awaited};
+use crate::{Phase, ServerSession, ServerStep};
 use at_command::AtKind;
 use client_state::ClientState;
 use reply::ReplyStyle;
@@ -59,20 +59,13 @@ fn put_at_answer<'a>(
 }
 
 impl ServerSession {
-    // The command that is handed out.
-    fn command(&self) -> &[u8]
-        ensures { result.now ≡ (session self.now).line }
-    {
-        &self.line[..self.command_size()]
-    }
-
     // Whether an AT answer is refused.
     #[tactic(auto, unfolding(crate::specs::Replies::answer_says, wire::specs::Answer::unless))]
     fn answer_verdict(&self, ati: &[u8], device: &[u8], room: usize) -> Result<(), Refusal>
         ensures { answer_says room (session self.now) ati.now device.now ≡
             settled result (server_refusing (session self.now)) (at_answered (session self.now) ati.now device.now) }
     {
-        if self.turn.phase != Phase::AtCommand {
+        if self.phase != Phase::AtCommand {
             return Err(Refusal::OutOfTurn);
         }
         if 32 < ati.len() || 32 < device.len() {
@@ -92,9 +85,9 @@ impl ServerSession {
     fn reject_verdict(&self, text: &[u8], room: usize) -> Result<(), Refusal>
         ensures { reject_says room (session self.now) text.now ≡
             settled result (server_refusing (session self.now))
-            (awaited (session self.now).state (chip_reply (session self.now).state.linefeeds (text.now ∷ []))) }
+            (line_awaited (session self.now).state (chip_reply (session self.now).state.linefeeds (text.now ∷ []))) }
     {
-        if self.turn.phase != Phase::ObdCommand {
+        if self.phase != Phase::ObdCommand {
             return Err(Refusal::OutOfTurn);
         }
         if 64 < text.len() {
@@ -116,11 +109,12 @@ impl ServerSession {
           taken = 0;
           written = written;
           session = record
-              { state = state; line = self.line; turn = record { phase = Phase.Reading; len = 0 } };
+              { state = state; line = record { bytes = self.line.bytes; len = 0 }; phase = Phase.Reading };
         } }
     {
         self.state = state;
-        self.turn = line_awaited();
+        self.line.len = 0;
+        self.phase = Phase::Reading;
         ServerStep {
             answer: Ok(Phase::Reading),
             taken: 0,
@@ -149,7 +143,7 @@ impl ServerSession {
         if let Err(refusal) = self.answer_verdict(ati, device, out.len()) {
             return self.refused(refusal);
         }
-        let handled = at_command::at_handled(self.state, self.command());
+        let handled = at_command::at_handled(self.state, self.line.as_slice());
         let linefeeds = handled.state.linefeeds_enabled;
         let written = put_at_answer(out, handled.kind, ati, device, linefeeds);
         self.answered(handled.state, written)
@@ -162,7 +156,7 @@ impl ServerSession {
         ensures out_after { server_step result out.new ≡ server_lent (reply_says (length out.old) (session self) list.now) out.old }
         ensures refused_unchanged { (q : Refusal) → result.answer ≡ Err q → result.session ≡ self }
     {
-        if self.turn.phase != Phase::ObdCommand {
+        if self.phase != Phase::ObdCommand {
             return self.refused(Refusal::OutOfTurn);
         }
         let style = ReplyStyle {
@@ -172,7 +166,7 @@ impl ServerSession {
         };
         match reply::write_reply(list, style, out) {
             Ok(size) => {
-                let state = self.state.with_last(self.command());
+                let state = self.state.with_last(self.line.as_slice());
                 self.answered(state, size)
             }
             Err(refusal) => self.refused(refusal),

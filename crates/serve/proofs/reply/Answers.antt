@@ -1,8 +1,7 @@
 -- `serve::reply` meets its contract: the command is part of the line.
-use mathlib.Core.Path.{◌≡◌, ap, ◌∙◌}
-use lib.ListN.{length, take}
+use mathlib.Core.Path.{ap, ◌∙◌}
+use lib.ListN.{length}
 use lib.Seq.{take_all}
-use Rattle.wire.proofs.ListLaws.{take_cut}
 use Rattle.wire.proofs.PutLaws.{put_front}
 use Rattle.line_list.specs.Lines.{lines_bytes}
 use Rattle.server_session.specs.Session.{session}
@@ -15,7 +14,5 @@ use Rattle.serve.proofs.reply.Goals as goal
 pub returns : goal.returns
 returns c =
     let server = c.args.server in
-    let command : take c.command_size.result server.line ≡ (session server).line =
-    ap (λ n. take n server.line) c.command_size.ensures ∙ take_cut server.turn.len server.line in
-    let lines = put_front c.put_lines-n.ensures ∙ take_all 80 _ (vehicle_size _) ∙ ap (λ c. lines_bytes (vehicle c)) command in
+    let lines = put_front c.put_lines-n.ensures ∙ take_all 80 _ (vehicle_size _) ∙ ap (λ s. lines_bytes (vehicle s)) c.as_slice.ensures in
     c.reply.ensures.out_after ∙ ap (λ l. server_lent (reply_says (length c.args.out.now) (session server) l) c.args.out.now) lines

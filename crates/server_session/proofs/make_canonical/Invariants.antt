@@ -3,12 +3,13 @@ use mathlib.Core.List.{◌++◌}
 use mathlib.Core.Path.{◌≡◌}
 use Prim.Native.Nat.{◌≤◌}
 use lib.ListN.{length, take, drop}
+use Rattle.wire.specs.Bytes.{held}
 use Rattle.server_session.specs.Bytes.{canonical}
 use Rattle.server_session.proofs.make_canonical.Given as goal
 
 abbrev pub invariant-loop-i : goal.invariant-loop-i
 invariant-loop-i l = record {
   below : l.n ≤ l.i;
-  size : length l.line ≡ 128;
-  made : take l.n l.line ++ canonical (drop l.i (take l.size l.line)) ≡ canonical (take l.size l.initial.line);
+  long : l.size ≤ length l.line.bytes;
+  made : take l.n l.line.bytes ++ canonical (drop l.i (take l.size l.line.bytes)) ≡ canonical (held l.initial.line);
 }

@@ -17,7 +17,7 @@ returns-then-b-eq10 c = take_lf (session c.args.self.now) c.args.b c.put_echo-en
 pub returns : goal.returns
 returns c =
     let self = c.args.self.now in
-    let size : length self.line ≡ 128 = search rules in
+    let size : length self.line.bytes ≡ 128 = search rules in
     let short = c.requires.short c.if-b-eq13.false c.if-b-eq10.false in
-    let line = joined self.line self.turn.len c.args.b (omega (arith, length-take self.turn.len self.line)) in
-    take_plain (session self) c.args.b c.put_echo-end.ensures c.if-b-eq13.false c.if-b-eq10.false c.requires.turn (λ i. with_line (session self) (line i) self.turn.phase)
+    let line = joined self.line.bytes self.line.len c.args.b (omega (arith, length-take self.line.len self.line.bytes)) in
+    take_plain (session self) c.args.b c.put_echo-end.ensures c.if-b-eq13.false c.if-b-eq10.false c.requires.turn (λ i. with_line (session self) (line i) self.phase)

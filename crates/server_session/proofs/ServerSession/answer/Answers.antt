@@ -8,7 +8,7 @@ pub returns-clause-out_after : goal.returns-clause-out_after
 returns-clause-out_after c =
     let a = c.args in
     let s = session a.self in
-    let h = rw c.command.ensures at c.at_handled-handled.ensures in
+    let h = rw c.as_slice.ensures at c.at_handled-handled.ensures in
     let d = rw c.in_default.is at c.answer_verdict.ensures in
     rw (d, c.answered.ensures)
     (at_sent a.self a.ati.now a.device.now c.at_handled-handled.result.state c.at_handled-handled.result.kind h.0 h.1

@@ -27,7 +27,7 @@ returns-then-ne-clause-out_after c =
     let loop = c.loop-i in
     let run = c.read_run-run in
     let led = run_turn c.args.input.now (session loop.self) loop.i loop.at loop.out loop.invariant.inside loop.invariant.there run.ensures.ran in
-    let stops : is_reading c.take_byte.new.self.turn.phase ≡ false = search rules in
+    let stops : is_reading c.take_byte.new.self.phase ≡ false = search rules in
     rw c.step-then-ne.ensures
     (byte_stop c.args.input.now (session run.new.self) run.result.next run.result.at run.new.out led.inside c.if-input-i.false c.take_byte.new.self c.in-Ok.ensures stops ∙
     led.says ∙
@@ -38,7 +38,7 @@ loop-i-preserved c =
     let loop = c.loop-i in
     let run = c.read_run-run in
     let led = run_turn c.args.input.now (session loop.self) loop.i loop.at loop.out loop.invariant.inside loop.invariant.there run.ensures.ran in
-    let goes : is_reading c.take_byte.new.self.turn.phase ≡ true = search rules in
+    let goes : is_reading c.take_byte.new.self.phase ≡ true = search rules in
     let took = byte_turn c.args.input.now (session run.new.self) run.result.next run.result.at run.new.out led.inside c.if-input-i.false c.in-Ok.ensures goes in
     record {
       there = took.there;

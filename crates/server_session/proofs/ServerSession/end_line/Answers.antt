@@ -1,25 +1,20 @@
 -- `server_session::ServerSession::end_line` meets its contract.
-use mathlib.Core.Path.{ap, ◌∙◌}
-use native.Mathlib.Omega.{arith}
-use lib.ListN.{take, length-take}
-use Rattle.wire.proofs.ListLaws.{take_cut}
-use Rattle.server_session.specs.Bytes.{canonical}
+use mathlib.Core.Path.{◌≡◌}
+use borrow.Author.Rules.{rules}
+use lib.ListN.{length}
+use Rattle.wire.specs.Bytes.{held}
 use Rattle.server_session.specs.Session.{session}
 use Rattle.server_session.proofs.StepLaws.{end_none, end_command}
 use Rattle.server_session.proofs.ServerSession.end_line.Goals as goal
 
-pub returns-then-len-eq0 : goal.returns-then-len-eq0
-returns-then-len-eq0 c =
-    let self = c.args.self.now in
-    let line = c.make_canonical-len.new.line in
-    let made = c.make_canonical-len.ensures.made ∙ ap canonical (ap (λ n. take n self.line) c.command_size-size.ensures ∙ take_cut self.turn.len self.line) in
-    end_none (session self) (take c.make_canonical-len.result line) made (omega (arith, length-take c.make_canonical-len.result line)) line c.end_empty.ensures
+pub returns-then-is_empty : goal.returns-then-is_empty
+returns-then-is_empty c =
+    let line = held c.make_canonical.new.line in
+    let none : length line ≡ 0 = search rules in
+    end_none (session c.args.self.now) line c.make_canonical.ensures none line c.end_empty.ensures
 
 pub returns : goal.returns
 returns c =
-    let self = c.args.self.now in
-    let line = c.make_canonical-len.new.line in
-    let size = c.make_canonical-len.auto.line in
-    let made = c.make_canonical-len.ensures.made ∙ ap canonical (ap (λ n. take n self.line) c.command_size-size.ensures ∙ take_cut self.turn.len self.line) in
-    rw c.command_phase.ensures
-    (end_command (session self) (take c.make_canonical-len.result line) made (λ none. c.if-len-eq0.false (omega (arith, length-take c.make_canonical-len.result line))) c.args.out.now c.args.at)
+    let line = held c.make_canonical.new.line in
+    let some : (length line ≡ 0 → ⊥) = search rules in
+    rw (c.command_phase-self.ensures, c.as_slice-command.ensures) (end_command (session c.args.self.now) line c.make_canonical.ensures some c.args.out.now c.args.at)

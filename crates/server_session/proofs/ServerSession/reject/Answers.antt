@@ -9,4 +9,4 @@ returns-clause-out_after c =
     let a = c.args in
     let d = rw c.in_default.is at c.reject_verdict.ensures in
     rw (d, c.answered.ensures)
-    (sent a.self.state a.self.line _ c.put_text_reply-written.ensures (rw d at (reject_fits (length a.out.now) (session a.self) a.text.now)))
+    (sent a.self.state a.self.line.bytes _ c.put_text_reply-written.ensures (rw d at (reject_fits (length a.out.now) (session a.self) a.text.now)))

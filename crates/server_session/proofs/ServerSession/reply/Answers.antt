@@ -10,11 +10,11 @@ use Rattle.server_session.proofs.ServerSession.reply.Goals as goal
 
 pub returns-in-Err-clause-out_after : goal.returns-in-Err-clause-out_after
 returns-in-Err-clause-out_after c =
-    let turn : is_obd c.args.self.turn.phase ≡ true = search rules in
+    let turn : is_obd c.args.self.phase ≡ true = search rules in
     rw c.refused-in-Err.ensures (reply_refused c.args.self c.args.list.now c.args.out.now _ turn c.in-Err.refusal c.in-Err.ensures)
 
 pub returns-in-Ok-clause-out_after : goal.returns-in-Ok-clause-out_after
 returns-in-Ok-clause-out_after c =
-    let turn : is_obd c.args.self.turn.phase ≡ true = search rules in
-    let last = c.with_last-state.ensures ∙ ap (with_last (session c.args.self).state) c.command.ensures in
+    let turn : is_obd c.args.self.phase ≡ true = search rules in
+    let last = c.with_last-state.ensures ∙ ap (with_last (session c.args.self).state) c.as_slice.ensures in
     rw c.answered.ensures (reply-sent c.args.self c.args.list.now c.args.out.now _ turn _ c.with_last-state.result c.in-Ok.ensures last)
