@@ -149,12 +149,6 @@ fn put_pids(server: ServerState, pids: &[u8], log: &mut [u8], at: usize) -> usiz
     at
 }
 
-fn put_last(session: ClientSession, log: &mut [u8], at: usize) -> usize
-    ensures { Put log.old at (text_entry (client session).last) result log.new }
-{
-    driver_log::put_text(log, at, session.last.as_slice())
-}
-
 // The entry of a session's state: framing, repeat, multi-PID support, what is under way, the last query, and what is known of the PIDs in the argument.
 fn put_state(session: ClientSession, arg: &[u8], log: &mut [u8], at: usize) -> usize
     ensures { Put log.old at (state_entry (client session) arg.now) result log.new }
@@ -167,7 +161,7 @@ fn put_state(session: ClientSession, arg: &[u8], log: &mut [u8], at: usize) -> u
         under_code(session.pending.under),
     ];
     let at = wire::put(log, at, &first);
-    let at = put_last(session, log, at);
+    let at = driver_log::put_text(log, at, session.last.as_slice());
     put_pids(server, arg, log, at)
 }
 

@@ -43,18 +43,6 @@ fn phase_code(phase: Phase) -> u8
     }
 }
 
-fn put_last(state: ClientState, log: &mut [u8], at: usize) -> usize
-    ensures { Put log.old at (text_entry (settings state).last) result log.new }
-{
-    driver_log::put_text(log, at, state.last_obd_command.as_slice())
-}
-
-fn put_line(server: ServerSession, log: &mut [u8], at: usize) -> usize
-    ensures { Put log.old at (text_entry (session server).line) result log.new }
-{
-    driver_log::put_text(log, at, server.line.as_slice())
-}
-
 // The entry of a session's state: the four settings, the phase, the last command, and the line as far as it is read or the command handed out.
 fn put_state(server: ServerSession, log: &mut [u8], at: usize) -> usize
     ensures { Put log.old at (server_entry (session server)) result log.new }
@@ -68,8 +56,8 @@ fn put_state(server: ServerSession, log: &mut [u8], at: usize) -> usize
         phase_code(server.phase),
     ];
     let at = wire::put(log, at, &first);
-    let at = put_last(state, log, at);
-    put_line(server, log, at)
+    let at = driver_log::put_text(log, at, state.last_obd_command.as_slice());
+    driver_log::put_text(log, at, server.line.as_slice())
 }
 
 impl Driven for Server {
