@@ -11,8 +11,7 @@ ghost use Rattle.driver_log.specs.Script.{argument_length, calls, rounds};
 pub fn put_number(log: &mut [u8], at: usize, n: usize) -> usize
     ensures { Put log.old at (number_bytes n) result log.new }
 {
-    let next = wire::put_byte(log, at, (n % 256) as u8);
-    wire::put_byte(log, next, (n / 256 % 256) as u8)
+    wire::put(log, at, &((n % 65536) as u16).to_le_bytes())
 }
 
 // A text after its length.
@@ -61,7 +60,7 @@ pub fn byte_of(arg: &[u8], i: usize) -> u8
 fn argument_size(low: u8, high: u8, left: usize) -> usize
     ensures { result ≡ min (argument_length low high) left }
 {
-    wire::at_most(usize::from(low) + usize::from(high) * 256, left)
+    wire::at_most(usize::from(u16::from_le_bytes([low, high])), left)
 }
 
 // A session that a script's calls go to.

@@ -2,8 +2,6 @@
 // record buffer (that many bytes; 0 for the 65,536 of `hire`), the script's length as two bytes, the higher first, and the script.
 #![tactic(auto)]
 
-ghost use Rattle.std.specs.Prelude.{◌≤◌};
-
 use reading::read_input;
 use std::io::Write;
 
@@ -27,23 +25,16 @@ fn room_of(byte: u8) -> usize {
     usize::from(byte)
 }
 
-fn length_of(high: u8, low: u8) -> usize
-    ensures { result ≤ 65535 }
-{
-    usize::from(high) * 256 + usize::from(low)
-}
-
 fn main(rt: HostRuntime) {
     let mut to = rt.stdout();
     let mut input = [0u8; 32768];
     let n = read_input(&mut rt.stdin(), &mut input).unwrap_or_else(|cut| cut.size);
     let mut record = [0u8; 65536];
-    let mut at: usize = 0;
-    while at + 3 <= n {
-        let room = room_of(input[at]);
-        let start = at + 3;
-        let end = n.min(start + length_of(input[at + 1], input[at + 2]));
-        print_case(&input[start..end], &mut record, room, &mut to);
-        at = end;
+    let mut rest = &input[..n];
+    while let [room, high, low, after @ ..] = rest {
+        let length = usize::from(u16::from_be_bytes([*high, *low]));
+        let (script, left) = after.split_at(length.min(after.len()));
+        print_case(script, &mut record, room_of(*room), &mut to);
+        rest = left;
     }
 }

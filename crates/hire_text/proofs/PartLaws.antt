@@ -21,7 +21,7 @@ use Rattle.hire_text.specs.Hire.{hex_line}
 use Rattle.hire_text.specs.Steps.{IsPart, AreParts, PartEnd}
 use Rattle.hire_text.proofs.LineLaws.{hex_lines}
 
--- ---- the search for the end of the part at a position of s
+-- ---- the search for the end of the part at the start of s
 
 -- a value takes a byte at least, so there are no more values than bytes
 values_many : (n : ℕ) (s : List ℕ) (vs : List Value) (rest : List ℕ) → read_row value_format n s ≡ got vs rest → n ≤ length s
@@ -32,29 +32,29 @@ values_many (suc n) s vs rest q =
     omega (arith, value_some s v t g₁, values_many n t ws u g₂)
 
 -- where there is no part, the end of all the bytes will do
-no_part : (s : List ℕ) (at : ℕ) → ((vs : List Value) (rest : List ℕ) → part_format.read (drop at s) ≡ got vs rest → ⊥) → PartEnd s at (length s)
-no_part s at none = record { forward = λ h. h; inside = omega arith; ends = λ vs rest q. absurd (none vs rest q) }
+no_part : (s : List ℕ) → ((vs : List Value) (rest : List ℕ) → part_format.read s ≡ got vs rest → ⊥) → PartEnd s (length s)
+no_part s none = record { forward = λ h. h; inside = omega arith; ends = λ vs rest q. absurd (none vs rest q) }
 
 -- so where no number is read, up to that of the bytes
-pub no_number : (s : List ℕ) (at : ℕ) → read_group (length s) (drop at s) ≡ malformed → PartEnd s at (length s)
-no_number s at none =
-    no_part s at (λ vs rest q.
-    let (n, t, g, q₁) = then_got (read_number (drop at s)) (read_row value_format) vs rest q in
-    let few = le-leb n (length s) (omega (arith, values_many n t vs rest q₁, (read_rest (drop at s) n t g).0, length-drop at s)) in
+pub no_number : (s : List ℕ) → read_group (length s) s ≡ malformed → PartEnd s (length s)
+no_number s none =
+    no_part s (λ vs rest q.
+    let (n, t, g, q₁) = then_got (read_number s) (read_row value_format) vs rest q in
+    let few = le-leb n (length s) (omega (arith, values_many n t vs rest q₁, (read_rest s n t g).0)) in
     let e = rw (g, few) at none in
     from_no cc)
 
--- So many values are left of the part at a position, from n on.
-pub record ValuesLeft (s : List ℕ) (at n left : ℕ) : Type 0 where
-  pub forward : at < n
+-- So many values are left of the part at the start, from n on.
+pub record ValuesLeft (s : List ℕ) (n left : ℕ) : Type 0 where
+  pub forward : 0 < n
   pub inside : n ≤ length s
-  pub more : (vs : List Value) (rest : List ℕ) → part_format.read (drop at s) ≡ got vs rest → (ws : List Value) × (read_row value_format left (drop n s) ≡ got ws rest)
+  pub more : (vs : List Value) (rest : List ℕ) → part_format.read s ≡ got vs rest → (ws : List Value) × (read_row value_format left (drop n s) ≡ got ws rest)
 
-pub left_start : {s : List ℕ} {at v n : ℕ} → NumberAt (length s) s at v n → ValuesLeft s at n v
-left_start {s} {at} {v} {n} w = record {
+pub left_start : {s : List ℕ} {v n : ℕ} → NumberAt (length s) s 0 v n → ValuesLeft s n v
+left_start {s} {v} {n} w = record {
   forward = w.after;
   inside = w.inside;
-  more = λ vs rest q. (vs, rw (group_got (length s) v (drop at s) (drop n s) w.reads).1 at q);
+  more = λ vs rest q. (vs, rw (group_got (length s) v s (drop n s) w.reads).1 at q);
 }
 
 -- a value and then the others, of those that are left
@@ -75,65 +75,60 @@ last-value : (left : ℕ) (s : List ℕ) (vs : List Value) (rest : List ℕ) →
 last-value zero s vs rest h q = cc
 last-value (suc k) s vs rest h q = absurd (omega arith)
 
-module _ {s : List ℕ} {at n left : ℕ} (k : ValuesLeft s at n left) where
-  pub left-value : {p e a m : ℕ} → 0 < left → ValueHere s n p e a m → ValuesLeft s at m (left - 1)
+module _ {s : List ℕ} {n left : ℕ} (k : ValuesLeft s n left) where
+  pub left-value : {p e a m : ℕ} → 0 < left → ValueHere s n p e a m → ValuesLeft s m (left - 1)
   left-value h w = record {
     forward = omega (arith, k.forward, w.here.after, w.ordered);
     inside = w.here.inside;
     more = λ vs rest q. next-value left (drop n s) _ _ _ rest h w.here.reads (k.more vs rest q).1;
   }
 
-  pub left_none : {j : ℕ} → 0 < left → value_format.read (drop n s) ≡ failed j → PartEnd s at (length s)
-  left_none h e = no_part s at (λ vs rest q. no_value left (drop n s) _ rest h e (k.more vs rest q).1)
+  pub left_none : {j : ℕ} → 0 < left → value_format.read (drop n s) ≡ failed j → PartEnd s (length s)
+  left_none h e = no_part s (λ vs rest q. no_value left (drop n s) _ rest h e (k.more vs rest q).1)
 
-  pub left-past : 0 < left → length s ≤ n → PartEnd s at (length s)
+  pub left-past : 0 < left → length s ≤ n → PartEnd s (length s)
   unfolding value_format
   left-past h i = left_none {j = 5} h (rw (drop_of_length-le s i))
 
-  pub left_end : left ≤ 0 → PartEnd s at n
+  pub left_end : left ≤ 0 → PartEnd s n
   left_end h = record {
     forward = λ i. k.forward;
     inside = k.inside;
     ends = λ vs rest q. last-value left (drop n s) _ rest h (k.more vs rest q).1;
   }
 
--- ---- the lines of the parts of a record s
+-- ---- the lines of the parts of a record
 
--- The lines of the parts from position start on are left to be written.
-pub record LinesLeft (s : List ℕ) (start : ℕ) (out : List ℕ) (at r : ℕ) (left : List ℕ) : Type 0 where
+-- The lines of the parts of s are left to be written.
+pub record LinesLeft (s out : List ℕ) (at r : ℕ) (left : List ℕ) : Type 0 where
   pub parts : List (List ℕ)
   pub are : AreParts parts
-  pub bytes : drop start s ≡ joined parts
+  pub bytes : s ≡ joined parts
   pub lines : Put out at (hex_lines parts) r left
-
-pub lines_start : (parts : List (List ℕ)) {s out left : List ℕ} {at r : ℕ} → AreParts parts → s ≡ joined parts → Put out at (hex_lines parts) r left → LinesLeft s 0 out at r left
-lines_start parts a e p = record { parts = parts; are = a; bytes = e; lines = p }
 
 -- a part has a byte
 part_some : (p : List ℕ) → IsPart p → 0 < length p
 part_some [] h = let q = (h []).1 in from_no cc
 part_some (b ∷ p) h = omega arith
 
-module _ (s : List ℕ) (start : ℕ) {out left : List ℕ} {at r : ℕ} where
-  first-line : {end a₁ : ℕ} {o₁ : List ℕ} (parts : List (List ℕ)) → AreParts parts → drop start s ≡ joined parts → Put out at (hex_lines parts) r left → start < length s →
-      PartEnd s start end → Put out at (hex_line (take (end - start) (drop start s))) a₁ o₁ → LinesLeft s end o₁ a₁ r left
-  first-line [] a e p h w l = absurd (omega (arith, ap length e, length-drop start s))
+module _ (s : List ℕ) {out left : List ℕ} {at r : ℕ} where
+  first-line : {end a₁ : ℕ} {o₁ : List ℕ} (parts : List (List ℕ)) → AreParts parts → s ≡ joined parts → Put out at (hex_lines parts) r left → 0 < length s →
+      PartEnd s end → Put out at (hex_line (take end s)) a₁ o₁ → LinesLeft (drop end s) o₁ a₁ r left
+  first-line [] a e p h w l = absurd (omega (arith, ap length e))
   first-line {end} (q ∷ qs) a e p h w l =
       let (vs, reads) = a.0 (joined qs) in
       let after : drop end s ≡ joined qs = w.ends vs (joined qs) (rw e reads) in
-      let size = length-append q (joined qs) in
-      let own : end - start ≡ length q = omega (arith, w.inside, ap length e, ap length after, length-drop start s, length-drop end s) in
-      let line : take (end - start) (drop start s) ≡ q = rw (own, e) (take-append_seam q (joined qs)) in
+      let own : end ≡ length q = omega (arith, w.inside, ap length e, ap length after, length-append q (joined qs), length-drop end s) in
+      let line : take end s ≡ q = rw (own, e) (take-append_seam q (joined qs)) in
       record { parts = qs; are = a.1; bytes = after; lines = put_rest p (rw line at l) }
 
-  last_line : (parts : List (List ℕ)) → AreParts parts → drop start s ≡ joined parts → Put out at (hex_lines parts) r left → length s ≤ start → (r ≡ at) × (left ≡ out)
+  last_line : (parts : List (List ℕ)) → AreParts parts → s ≡ joined parts → Put out at (hex_lines parts) r left → length s ≤ 0 → (r ≡ at) × (left ≡ out)
   last_line [] a e p h = put_nil p
-  last_line (q ∷ qs) a e p h = absurd (omega (arith, part_some q a.0, ap length e, length-append q (joined qs), length-drop start s))
+  last_line (q ∷ qs) a e p h = absurd (omega (arith, part_some q a.0, ap length e, length-append q (joined qs)))
 
-module _ {s out left : List ℕ} {start at r : ℕ} (k : LinesLeft s start out at r left) where
-  pub lines_next : {end a₁ : ℕ} {o₁ : List ℕ} → start < length s → PartEnd s start end →
-      Put out at (hex_line (take (end - start) (drop start s))) a₁ o₁ → LinesLeft s end o₁ a₁ r left
-  lines_next h w l = first-line s start k.parts k.are k.bytes k.lines h w l
+module _ {s out left : List ℕ} {at r : ℕ} (k : LinesLeft s out at r left) where
+  pub lines_next : {end a₁ : ℕ} {o₁ : List ℕ} → 0 < length s → PartEnd s end → Put out at (hex_line (take end s)) a₁ o₁ → LinesLeft (drop end s) o₁ a₁ r left
+  lines_next h w l = first-line s k.parts k.are k.bytes k.lines h w l
 
-  pub lines_end : length s ≤ start → (r ≡ at) × (left ≡ out)
-  lines_end h = last_line s start k.parts k.are k.bytes k.lines h
+  pub lines_end : length s ≤ 0 → (r ≡ at) × (left ≡ out)
+  lines_end h = last_line s k.parts k.are k.bytes k.lines h

@@ -11,8 +11,8 @@ abbrev pub AreParts : List (List ℕ) → Type 0
 AreParts [] = Unit {0}
 AreParts (p ∷ ps) = IsPart p × AreParts ps
 
--- Past position at and inside s; and where a part stands at position at, its end.
-pub record PartEnd (s : List ℕ) (at r : ℕ) : Type 0 where
-  pub forward : at < length s → at < r
+-- Inside s, past its start; and where a part stands at the start, its end.
+pub record PartEnd (s : List ℕ) (r : ℕ) : Type 0 where
+  pub forward : 0 < length s → 0 < r
   pub inside : r ≤ length s
-  pub ends : (vs : List Value) (rest : List ℕ) → part_format.read (drop at s) ≡ got vs rest → drop r s ≡ rest
+  pub ends : (vs : List Value) (rest : List ℕ) → part_format.read s ≡ got vs rest → drop r s ≡ rest

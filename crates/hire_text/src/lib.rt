@@ -35,12 +35,11 @@ fn put_hex_line(out: &mut [u8], at: usize, bytes: &[u8]) -> usize
     at
 }
 
-// Where the part at position at of a record ends. A value takes a byte at least, so no part has more values than there
-// are bytes.
-fn part_end(bytes: &[u8], at: usize) -> usize
-    ensures { PartEnd bytes.now at result }
+// Where the first part of a record ends. A value takes a byte at least, so no part has more values than there are bytes.
+fn part_end(bytes: &[u8]) -> usize
+    ensures { PartEnd bytes.now result }
 {
-    let Ok(values) = group::read_group(bytes, at, bytes.len()) else {
+    let Ok(values) = group::read_group(bytes, 0, bytes.len()) else {
         return bytes.len();
     };
     let mut cursor = ValueCursor { at: values.next };
@@ -59,11 +58,11 @@ fn put_parts(out: &mut [u8], at: usize, bytes: &[u8]) -> usize
     ensures { (parts : List (List ℕ)) → AreParts parts → bytes.now ≡ joined parts → Put out.old at (joined (map hex_line parts)) result out.new }
 {
     let mut at = at;
-    let mut start: usize = 0;
-    while start < bytes.len() {
-        let end = part_end(bytes, start);
-        at = put_hex_line(out, at, &bytes[start..end]);
-        start = end;
+    let mut rest = bytes;
+    while !rest.is_empty() {
+        let (part, left) = rest.split_at(part_end(rest));
+        at = put_hex_line(out, at, part);
+        rest = left;
     }
     at
 }

@@ -1,7 +1,6 @@
 -- When a log is the stored one, and where else they differ first.
-use Rattle.std.specs.Prelude.{cond, List, [], ◌∷◌, ℕ, suc, ◌+◌, ◌≤◌, eqb, Option, Some, None}
+use Rattle.std.specs.Prelude.{cond, List, [], ◌∷◌, ℕ, suc, ◌+◌, eqb, Option, Some, None}
 use Rattle.wire.specs.Text.{same}
-use Rattle.replay.specs.declared.Entry.{Entry}
 use Rattle.replay.specs.declared.Difference.{Difference}
 use Rattle.replay.specs.declared.Tally.{Tally}
 
@@ -24,11 +23,3 @@ first_of None None case = None
 -- one more case
 abbrev pub tallied : Tally → Option ℕ → Tally
 tallied t differs = record { cases = t.cases + 1; first = first_of t.first differs (t.cases + 1) }
-
--- an entry's texts stand one after the other inside the list
-pub record Within (at : ℕ) (e : Entry) (size : ℕ) : Type 0 where
-  pub header : at + 9 ≤ e.pieces
-  pub pieces : e.pieces ≤ e.script
-  pub script : e.script ≤ e.stored
-  pub stored : e.stored ≤ e.next
-  pub next : e.next ≤ size

@@ -4,21 +4,19 @@
 // text.
 #![tactic(auto)]
 
-ghost use Rattle.std.specs.Prelude.{◌≡◌, ◌+◌, ◌≤◌, ◌<◌, length};
-ghost use Rattle.replay.specs.Compare.{agreeing, judged, tallied, Within};
+ghost use Rattle.std.specs.Prelude.{◌≡◌, ◌≤◌, ◌<◌, length, IfSome};
+ghost use Rattle.replay.specs.Compare.{agreeing, judged, tallied};
 
 use reading::read_input;
 use std::io::Write;
 
-// Where an entry's texts start, each ending where the next starts, and where the next entry does.
 #[derive(Clone, Copy)]
-struct Entry {
+struct Entry<'a> {
     kind: u8,
     room: usize,
-    pieces: usize,
-    script: usize,
-    stored: usize,
-    next: usize,
+    pieces: &'a [u8],
+    script: &'a [u8],
+    stored: &'a [u8],
 }
 
 // A case whose log is not the stored one: its number under the heading, and in how many bytes the two agree from their start.
@@ -64,35 +62,42 @@ fn add_case(before: Tally, differs: Option<usize>) -> Tally
     Tally { cases: case, first }
 }
 
-// The place so many bytes on, or the end.
-fn skip(list: &[u8], at: usize, n: usize) -> usize
-    requires { at ≤ length list.now }
-    ensures { (at ≤ result) × (result ≤ length list.now) }
+fn read_number(list: &[u8]) -> Option<(usize, &[u8])>
+    ensures { IfSome result (λ r. length r.1.now ≤ length list.now) }
 {
-    at + n.min(list.len() - at)
+    let [low, high, rest @ ..] = list else {
+        return None;
+    };
+    Some((usize::from(u16::from_le_bytes([*low, *high])), rest))
 }
 
-fn number(low: u8, high: u8) -> usize {
-    usize::from(low) + usize::from(high) * 256
+// The first n bytes and what stands behind them; all where there are fewer.
+fn cut(list: &[u8], n: usize) -> (&[u8], &[u8])
+    ensures { length result.1.now ≤ length list.now }
+{
+    list.split_at(n.min(list.len()))
 }
 
-// The entry that starts here.
-fn read_entry(list: &[u8], at: usize) -> Entry
-    requires { at + 9 ≤ length list.now }
-    ensures { Within at result (length list.now) }
+// The first entry of a list, if its numbers are there, and the list behind it. A text ends at the end of the list at most.
+fn read_entry(list: &[u8]) -> Option<(Entry<'_>, &[u8])>
+    ensures { IfSome result (λ r. length r.1.now < length list.now) }
 {
-    let pieces = at + 9;
-    let script = skip(list, pieces, number(list[at + 3], list[at + 4]));
-    let stored = skip(list, script, number(list[at + 5], list[at + 6]));
-    let next = skip(list, stored, number(list[at + 7], list[at + 8]));
-    Entry {
-        kind: list[at],
-        room: number(list[at + 1], list[at + 2]),
+    let (kind, rest) = list.split_first()?;
+    let (room, rest) = read_number(rest)?;
+    let (pieces, rest) = read_number(rest)?;
+    let (script, rest) = read_number(rest)?;
+    let (stored, rest) = read_number(rest)?;
+    let (pieces, rest) = cut(rest, pieces);
+    let (script, rest) = cut(rest, script);
+    let (stored, rest) = cut(rest, stored);
+    let entry = Entry {
+        kind: *kind,
+        room,
         pieces,
         script,
         stored,
-        next,
-    }
+    };
+    Some((entry, rest))
 }
 
 // A bench run with the first bytes of a buffer as the record buffer.
@@ -147,27 +152,18 @@ fn run(
     }
 }
 
-fn replay(
-    list: &[u8],
-    entry: Entry,
-    at: usize,
-    store: &mut [u8],
-    out: &mut [u8],
-    log: &mut [u8],
-) -> Option<usize>
-    requires { Within at entry (length list.now) }
-{
+fn replay(entry: Entry<'_>, store: &mut [u8], out: &mut [u8], log: &mut [u8]) -> Option<usize> {
     let written = run(
         case_of(entry.kind),
         entry.room,
-        &list[entry.pieces..entry.script],
-        &list[entry.script..entry.stored],
+        entry.pieces,
+        entry.script,
         store,
         out,
         log,
     );
     let size = written.min(log.len());
-    judge(&log[..size], &list[entry.stored..entry.next])
+    judge(&log[..size], entry.stored)
 }
 
 // What is said of the cases under a heading.
@@ -184,16 +180,12 @@ fn print_tally<W: Write>(to: &mut W, tally: Tally) {
 }
 
 // A heading: what stood under the one before it, if there was one, is said first.
-fn head<W: Write>(to: &mut W, list: &[u8], entry: Entry, before: Tally, at: usize) -> Tally
-    requires { Within at entry (length list.now) }
-    ensures { result.cases ≡ 0 }
-{
-    if at != 0 {
-        print_tally(to, before);
+fn head<W: Write>(to: &mut W, title: &[u8], before: Option<Tally>) {
+    if let Some(tally) = before {
+        print_tally(to, tally);
     }
-    let _ = to.write_all(&list[entry.stored..entry.next]);
+    let _ = to.write_all(title);
     let _ = to.write_all(b": ");
-    Tally::default()
 }
 
 fn main(rt: HostRuntime) {
@@ -203,17 +195,18 @@ fn main(rt: HostRuntime) {
     let mut store = [0u8; 4096];
     let mut out = [0u8; 65536];
     let mut log = [0u8; 65536];
-    let mut under = Tally::default();
-    let mut at: usize = 0;
-    while 9 <= n - at {
-        let entry = read_entry(&list[..n], at);
-        if entry.kind == 0 {
-            under = head(&mut to, &list[..n], entry, under, at);
+    let mut under = None;
+    let mut rest = &list[..n];
+    while let Some((entry, left)) = read_entry(rest) {
+        let tally = if entry.kind == 0 {
+            head(&mut to, entry.stored, under);
+            Tally::default()
         } else {
-            let differs = replay(&list[..n], entry, at, &mut store, &mut out, &mut log);
-            under = add_case(under, differs);
-        }
-        at = entry.next;
+            let differs = replay(entry, &mut store, &mut out, &mut log);
+            add_case(under.unwrap_or_default(), differs)
+        };
+        under = Some(tally);
+        rest = left;
     }
-    print_tally(&mut to, under);
+    print_tally(&mut to, under.unwrap_or_default());
 }

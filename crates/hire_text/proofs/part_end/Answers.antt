@@ -7,18 +7,18 @@ use Rattle.hire_text.proofs.PartLaws.{ValuesLeft, no_number, left_start, left-va
 use Rattle.hire_text.proofs.part_end.Goals as goal
 
 pub returns-in_default : goal.returns-in_default
-returns-in_default c = no_number _ _ (none_at _ _ _ _ (rw c.in_default.is at c.read_group.ensures))
+returns-in_default c = no_number _ (none_at _ _ _ _ (rw c.in_default.is at c.read_group.ensures))
 
 pub loop-init : goal.loop-init
 loop-init c =
     let all : c.in-Ok.values.value ≡ c.in-Ok.values.value - 0 = omega arith in
-    subst (λ (n : ℕ). ValuesLeft c.args.bytes.now c.args.at c.in-Ok.values.next n) all (left_start (number_at _ _ _ (rw c.in-Ok.is at c.read_group.ensures)))
+    subst (λ (n : ℕ). ValuesLeft c.args.bytes.now c.in-Ok.values.next n) all (left_start (number_at _ _ _ (rw c.in-Ok.is at c.read_group.ensures)))
 
 pub loop-preserved : goal.loop-preserved
 loop-preserved c =
     let here = step_value _ _ (rw (c.in-Ok-Some.is, c.in-Ok-Some.field-0-is) at c.step.ensures) in
     let fewer : (c.in-Ok.values.value - c.loop.counter) - 1 ≡ c.in-Ok.values.value - (c.loop.counter + 1) = omega arith in
-    subst (λ (n : ℕ). ValuesLeft c.args.bytes.now c.args.at c.in-Ok-Some.value.next.at n) fewer (left-value c.loop.invariant (omega (arith, c.loop-test.true)) here)
+    subst (λ (n : ℕ). ValuesLeft c.args.bytes.now c.in-Ok-Some.value.next.at n) fewer (left-value c.loop.invariant (omega (arith, c.loop-test.true)) here)
 
 pub returns-in-Ok-None : goal.returns-in-Ok-None
 returns-in-Ok-None c = left-past c.loop.invariant (omega (arith, c.loop-test.true)) (step_end _ _ (rw (c.in-Ok-None.is, c.in-Ok-None.field-0-is) at c.step.ensures))

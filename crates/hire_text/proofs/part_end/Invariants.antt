@@ -4,4 +4,4 @@ use Rattle.hire_text.proofs.PartLaws.{ValuesLeft}
 use Rattle.hire_text.proofs.part_end.Given as goal
 
 abbrev pub invariant-loop : goal.invariant-loop
-invariant-loop l = ValuesLeft l.bytes l.at l.cursor.at (l.end - l.counter)
+invariant-loop l = ValuesLeft l.bytes l.cursor.at (l.end - l.counter)

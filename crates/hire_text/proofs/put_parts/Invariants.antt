@@ -10,10 +10,10 @@ use Rattle.hire_text.specs.Steps.{AreParts}
 use Rattle.hire_text.proofs.PartLaws.{LinesLeft}
 use Rattle.hire_text.proofs.put_parts.Given as goal
 
-abbrev pub invariant-loop-start : goal.invariant-loop-start
-invariant-loop-start l = (length l.out ≡ length l.initial.out) ×
+abbrev pub invariant-loop-rest : goal.invariant-loop-rest
+invariant-loop-rest l = (length l.out ≡ length l.initial.out) ×
     ((parts : List (List ℕ)) → AreParts parts → l.bytes ≡ joined parts →
-    LinesLeft l.bytes l.start l.out l.at (l.at-2 + min (length (hex_lines parts)) (length l.initial.out - l.at-2)) (sets l.initial.out l.at-2 (hex_lines parts)))
+    LinesLeft l.rest l.out l.at (l.at-2 + min (length (hex_lines parts)) (length l.initial.out - l.at-2)) (sets l.initial.out l.at-2 (hex_lines parts)))
 
-abbrev pub decreases-loop-start : goal.decreases-loop-start
-decreases-loop-start l = length l.bytes - l.start
+abbrev pub decreases-loop-rest : goal.decreases-loop-rest
+decreases-loop-rest l = length l.rest
