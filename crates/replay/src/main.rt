@@ -71,14 +71,14 @@ fn read_number(list: &[u8]) -> Option<(usize, &[u8])>
     Some((usize::from(u16::from_le_bytes([*low, *high])), rest))
 }
 
-// The first n bytes and what stands behind them; all where there are fewer.
-fn cut(list: &[u8], n: usize) -> (&[u8], &[u8])
+// A text of n bytes, or of all where there are fewer, and what stands behind it.
+fn read_text(list: &[u8], n: usize) -> (&[u8], &[u8])
     ensures { length result.1.now ≤ length list.now }
 {
     list.split_at(n.min(list.len()))
 }
 
-// The first entry of a list, if its numbers are there, and the list behind it. A text ends at the end of the list at most.
+// The first entry of a list, if its numbers are there, and the list behind it.
 fn read_entry(list: &[u8]) -> Option<(Entry<'_>, &[u8])>
     ensures { IfSome result (λ r. length r.1.now < length list.now) }
 {
@@ -87,9 +87,9 @@ fn read_entry(list: &[u8]) -> Option<(Entry<'_>, &[u8])>
     let (pieces, rest) = read_number(rest)?;
     let (script, rest) = read_number(rest)?;
     let (stored, rest) = read_number(rest)?;
-    let (pieces, rest) = cut(rest, pieces);
-    let (script, rest) = cut(rest, script);
-    let (stored, rest) = cut(rest, stored);
+    let (pieces, rest) = read_text(rest, pieces);
+    let (script, rest) = read_text(rest, script);
+    let (stored, rest) = read_text(rest, stored);
     let entry = Entry {
         kind: *kind,
         room,
