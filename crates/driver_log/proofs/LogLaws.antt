@@ -7,7 +7,6 @@ use lib.Seq.{take-length}
 use Rattle.wire.specs.Put.{Put}
 use Rattle.wire.proofs.PutLaws.{put_none, put_full, put_then}
 use Rattle.wire.proofs.ListLaws.{take_min}
-use Rattle.driver_log.specs.Log.{call_entry, noted, answered}
 
 -- nothing is written past the end
 pub put_past : (out : List ℕ) (at : ℕ) (t : List ℕ) → length out ≤ at → Put out at t at out
