@@ -28,9 +28,9 @@ use Rattle.client_session.specs.declared.Under.TheVariants as under
 use Rattle.client_session.specs.Session.{Client}
 use Rattle.client_session.specs.Call.{Progress, sent, complete, ClientSaid, client_saying}
 use Rattle.server_session.specs.Session.{Session}
-use Rattle.client_session.specs.Start.{request, send_query}
+use Rattle.client_session.specs.Start.{repeats, request, send_query}
 use Rattle.client_session.specs.Piece.{reply_in}
-use Rattle.client_session.proofs.StartLaws.{repeats, query_repeated, query_in_full}
+use Rattle.client_session.proofs.StartLaws.{query_repeated, query_in_full}
 use Rattle.client_session.proofs.PiecesLaws.{Awaiting, prompted}
 use Rattle.bench.specs.Script.{Query}
 use Rattle.bench.specs.Exchange.{Exchanged, exchanged}

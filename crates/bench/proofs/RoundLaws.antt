@@ -51,7 +51,7 @@ module _ (s : Session) (command list reply reply₁ : List ℕ) (x : ExchangeSte
 
 -- the client's bytes go to the server, and what it sends comes back in pieces
 module _ (b : code.Bench) (command list reply store out out₁ reply₁ store₁ : List ℕ) (x : ExchangeStep) (r : RoundStep)
-    (short : length b.client.query.bytes ≡ 18) (small : length out ≡ send_room) (large : length reply ≡ reply_room)
+    (short : length b.client.query.text.bytes ≡ 18) (small : length out ≡ send_room) (large : length reply ≡ reply_room)
     (heard : exchange_step x reply₁ ≡ exchange_lent (exchanged (length reply) (session b.server) command list) reply)
     (given : delivery_step r store₁ out₁ ≡ delivery_lent (delivered (length out) (client b.client) store b.lengths.now (take x.written reply₁)) out)
     (waits : r.bench.server ≡ x.session) where
@@ -70,7 +70,7 @@ module _ (b : code.Bench) (command list reply store out out₁ reply₁ store₁
   told = ap (λ (v : DeliveryServed). v.served) does
 
   fits : length delivers.said.text ≤ length out
-  fits = omega (arith, small, delivered_fits send_room (client b.client) store b.lengths.now exchanges.text (omega (arith, held_short b.client.query short)))
+  fits = omega (arith, small, delivered_fits send_room (client b.client) store b.lengths.now exchanges.text (omega (arith, held_short b.client.query.text short)))
 
   pub round_does : RoundDoes (round (bench_of b store) command list) r (record { out = out₁; reply = reply₁; store = store₁ })
   unfolding delivered

@@ -77,9 +77,11 @@ client_holding n = record {
   want_framing = true;
   server = nothing_learned true;
   last = record { bytes = replicate 18 0; len = 0 };
-  query = record { bytes = ascii "010C" ++ replicate 14 0; len = 4 };
-  pids = record { bytes = 0x0C ∷ replicate 5 0; len = 1 };
-  several = false;
+  query = record {
+    text = record { bytes = ascii "010C" ++ replicate 14 0; len = 4 };
+    pids = record { bytes = 0x0C ∷ replicate 5 0; len = 1 };
+    several = false;
+  };
   pending = record { under = under.Awaiting command.Query; got = n };
 }
 

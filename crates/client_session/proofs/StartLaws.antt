@@ -1,6 +1,6 @@
 -- What a start says.
 use mathlib.Core.Path.{◌≡◌}
-use mathlib.Core.Bool.{Bool, true, false, ◌&&◌}
+use mathlib.Core.Bool.{Bool, true, false}
 use mathlib.Core.List.{List, [], ◌∷◌, ◌++◌}
 use Prim.Native.Nat.{ℕ, ◌≤◌}
 use native.Mathlib.Omega.{arith}
@@ -8,20 +8,15 @@ use lib.Dec.{eqb, ltb}
 use lib.ListN.{length, length-append}
 use borrow.Author.Tests.{ne_eqb, le-ltb, ltb-false}
 use Rattle.wire.specs.Answer.{result, unless}
-use Rattle.wire.specs.Text.{ascii, same}
+use Rattle.wire.specs.Text.{ascii}
 use Rattle.wire.proofs.Cases.{by_test, or_none_lem}
 use Rattle.wire.proofs.UnlessLaws.{unless_by}
 use Rattle.query.proofs.QueryLaws.{query_short}
 use Rattle.client_command.proofs.CommandLaws.{cr_length}
-use Rattle.server_state.specs.State.{may_try}
 use Rattle.client_session.specs.declared.Command.TheVariants.{Reset, Query, Repeat}
 use Rattle.client_session.specs.Session.{Request, Client, is_idle, with_query}
 use Rattle.client_session.specs.Call.{sent, ClientSaid, sends}
-use Rattle.client_session.specs.Start.{init_says, command_says, send_query, request, query_says}
-
--- a query repeats the last one
-abbrev pub repeats : Client → Request → Bool
-repeats c q = may_try c.server.repeat && same c.last q.text
+use Rattle.client_session.specs.Start.{init_says, command_says, repeats, send_query, request, query_says}
 
 -- a query goes out as a bare CR, or in full
 pub query_repeated : (c : Client) (q : Request) → repeats c q ≡ true → send_query c q ≡ sends (with_query c q) Repeat (13 ∷ [])

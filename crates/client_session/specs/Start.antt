@@ -30,9 +30,12 @@ command_says room c command =
     (client_refusing c) (sends (with_last_query c []) (Raw (framing_effect command)) (with_cr command))
 
 -- "If repeat is not No and the query equals the last one, a bare CR goes out"
+abbrev pub repeats : Client → Request → Bool
+repeats c q = may_try c.server.repeat && same c.last q.text
+
 abbrev pub send_query : Client → Request → ClientSaid
 send_query c q =
-    cond (may_try c.server.repeat && same c.last q.text) (sends (with_query c q) Repeat (13 ∷ []))
+    cond (repeats c q) (sends (with_query c q) Repeat (13 ∷ []))
     (sends (with_query c q) Query (q.text ++ (13 ∷ [])))
 
 abbrev pub request : List ℕ → ℕ → Bool → Request

@@ -6,7 +6,7 @@ mod piece;
 mod start;
 
 ghost use Rattle.std.specs.Prelude.{◌≡◌, ◌&&◌, [], Ok, Err};
-ghost use Rattle.client_session.specs.Session.{client, fresh_client, is_idle, is_complete, with_under, with_last_query};
+ghost use Rattle.client_session.specs.Session.{client, request_of, no_query, fresh_client, is_idle, is_complete, with_under, with_last_query};
 ghost use Rattle.client_session.specs.Call.{in_query, failed_client, refusal_of};
 ghost use Rattle.client_session.specs.Steps.{Stepped, unchanged};
 
@@ -38,6 +38,14 @@ pub enum Under {
     Complete,
 }
 
+// A query: its text, its PIDs, and whether it is one of `query_pids`.
+#[derive(Clone, Copy)]
+pub struct Query {
+    pub text: QueryText,
+    pub pids: Bytes<6>,
+    pub several: bool,
+}
+
 // What is under way, and how many bytes of its reply the store holds.
 #[derive(Clone, Copy)]
 pub struct Pending {
@@ -53,10 +61,8 @@ pub struct ClientSession {
     pub server: ServerState,
     // The last query, which a repeat stands for; empty for none.
     pub last: QueryText,
-    // The query under way: its text, its PIDs, and whether it is one of `query_pids`.
-    pub query: QueryText,
-    pub pids: Bytes<6>,
-    pub several: bool,
+    // The query under way.
+    pub query: Query,
     pub pending: Pending,
 }
 
@@ -133,6 +139,19 @@ impl Under {
     }
 }
 
+impl Query {
+    // None yet.
+    fn new() -> Query
+        ensures { request_of result ≡ no_query }
+    {
+        Query {
+            text: QueryText::new(),
+            pids: Bytes::new(),
+            several: false,
+        }
+    }
+}
+
 impl ClientSession {
     // A session that asks for CAN headers and repeats queries as told, with nothing learned.
     pub fn new(framing: bool, repeat: bool) -> ClientSession
@@ -142,9 +161,7 @@ impl ClientSession {
             want_framing: framing,
             server: ServerState::new(repeat),
             last: QueryText::new(),
-            query: QueryText::new(),
-            pids: Bytes::new(),
-            several: false,
+            query: Query::new(),
             pending: Pending {
                 under: Under::Idle,
                 got: 0,
@@ -202,9 +219,9 @@ impl ClientSession {
 
     // Whether a query of `query_pids` is under way.
     fn in_several(&self) -> bool
-        ensures { result ≡ (in_query self.now.pending.under && self.now.several) }
+        ensures { result ≡ (in_query self.now.pending.under && self.now.query.several) }
     {
-        self.pending.under.in_query() && self.several
+        self.pending.under.in_query() && self.query.several
     }
 
     // The session after 7, 8 or 9.

@@ -1,19 +1,33 @@
 // A command is started: the initialisation, a raw command or a query. The starts are not inlined: a caller of several would clear room for the sessions of all of them
 // at each of its calls.
-ghost use Rattle.std.specs.Prelude.{◌≡◌, Bool, false, true, ◌&&◌, [], ◌∷◌, ℕ, ◌≤◌, length};
+ghost use Rattle.std.specs.Prelude.{◌≡◌, Bool, false, true, [], ◌∷◌, ℕ, ◌≤◌, length};
 ghost use Rattle.wire.specs.Steps.{settled};
-ghost use Rattle.wire.specs.Text.{ascii, same};
-ghost use Rattle.wire.specs.Bytes.{held};
+ghost use Rattle.wire.specs.Text.{ascii};
 ghost use Rattle.query.specs.Query.{count_of};
 ghost use Rattle.client_command.specs.Commands.{with_cr, framing_effect};
-ghost use Rattle.server_state.specs.State.{may_try};
-ghost use Rattle.client_session.specs.Session.{Client, client, with_query, with_last_query};
+ghost use Rattle.client_session.specs.Session.{Client, client, request_of, with_last_query};
 ghost use Rattle.client_session.specs.Call.{sends, client_refusing, client_lent, client_step, RefusedOrFailed};
-ghost use Rattle.client_session.specs.Start.{init_says, command_says, send_query, request, query_says};
+ghost use Rattle.client_session.specs.Start.{init_says, command_says, repeats, send_query, request, query_says};
 ghost use Rattle.client_session.specs.Steps.{Does, Early};
 
-use crate::{ClientSession, ClientStep, Command};
-use wire::Refusal;
+use crate::{ClientSession, ClientStep, Command, Query};
+use wire::{Bytes, Refusal};
+
+impl Query {
+    // A query of at most six PIDs.
+    fn of(pids: &[u8], count: Option<u8>, several: bool) -> Query
+        requires { length pids.now ≤ 6 }
+        ensures { request_of result ≡ request pids.now (count_of count) several }
+    {
+        let mut kept = Bytes::new();
+        kept.set(pids);
+        Query {
+            text: query_text::of(pids, count),
+            pids: kept,
+            several,
+        }
+    }
+}
 
 impl ClientSession {
     // Whether the initialisation is refused.
@@ -102,33 +116,23 @@ impl ClientSession {
         self.sends(Command::Raw(effect), written)
     }
 
-    // The session with a query of at most six PIDs, to be sent.
-    fn with_query(mut self, pids: &[u8], count: Option<u8>, several: bool) -> ClientSession
-        requires { length pids.now ≤ 6 }
-        ensures { client result ≡ with_query (client self) (request pids.now (count_of count) several) }
+    // Whether a query equals the last one, which a bare CR may repeat.
+    fn repeats(&self, query: Query) -> bool
+        ensures { result ≡ repeats (client self.now) (request_of query) }
     {
-        self.query = query_text::of(pids, count);
-        self.pids.set(pids);
-        self.several = several;
-        self
+        self.server.repeat.may_try() && self.last.is(query.text)
     }
 
-    // Whether the query equals the last one, which a bare CR may repeat.
-    fn repeats(&self) -> bool
-        ensures { result ≡ (may_try self.now.server.repeat && same (held self.now.last) (held self.now.query)) }
+    // A query goes out, in full or as a bare CR.
+    fn ask(mut self, query: Query, out: &mut [u8]) -> ClientStep
+        ensures { Does (send_query (client self) (request_of query)) out.old (client_step result out.new) }
     {
-        self.server.repeat.may_try() && self.last.is(self.query)
-    }
-
-    // The query goes out, in full or as a bare CR.
-    fn ask(self, out: &mut [u8]) -> ClientStep
-        ensures { Does (send_query (client self) (client self).query) out.old (client_step result out.new) }
-    {
-        if self.repeats() {
+        self.query = query;
+        if self.repeats(query) {
             let written = wire::put_byte(out, 0, b'\r');
             return self.sends(Command::Repeat, written);
         }
-        let written = query_text::put_line(self.query, out, 0);
+        let written = query_text::put_line(query.text, out, 0);
         self.sends(Command::Query, written)
     }
 
@@ -148,7 +152,7 @@ impl ClientSession {
         if let Err(refusal) = self.query_verdict(pids, out.len()) {
             return self.refused(refusal);
         }
-        self.with_query(pids, count, several).ask(out)
+        self.ask(Query::of(pids, count, several), out)
     }
 
     // Starts a query of one PID, with the number of ECUs that it waits for.

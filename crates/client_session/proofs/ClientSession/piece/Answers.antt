@@ -19,13 +19,13 @@ returns-then-is_reset-clause-out_after c =
     let a = c.args in
     let k = client a.self in
     let d = rw (sym c.if-nulls_alone.ensures, sym c.if-is_reset.ensures) at (c.in_default-piece_verdict.ensures.says k c.in-Awaiting.is) in
-    let eighteen : length a.self.query.bytes ≡ 18 = search rules in
-    lent_as d c.send_setup.ensures (piece_fits k (length a.out.now) a.piece.now a.store.now (omega (arith, held_short a.self.query eighteen)))
+    let eighteen : length a.self.query.text.bytes ≡ 18 = search rules in
+    lent_as d c.send_setup.ensures (piece_fits k (length a.out.now) a.piece.now a.store.now (omega (arith, held_short a.self.query.text eighteen)))
 
 pub returns-clause-out_after : goal.returns-clause-out_after
 returns-clause-out_after c =
     let a = c.args in
     let k = client a.self in
     let d = rw (sym c.if-nulls_alone.ensures, sym c.if-is_reset.ensures) at (c.in_default-piece_verdict.ensures.says k c.in-Awaiting.is) in
-    let eighteen : length a.self.query.bytes ≡ 18 = search rules in
-    lent_as d c.take.ensures.does (piece_fits k (length a.out.now) a.piece.now a.store.now (omega (arith, held_short a.self.query eighteen)))
+    let eighteen : length a.self.query.text.bytes ≡ 18 = search rules in
+    lent_as d c.take.ensures.does (piece_fits k (length a.out.now) a.piece.now a.store.now (omega (arith, held_short a.self.query.text eighteen)))
