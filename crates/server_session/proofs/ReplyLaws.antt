@@ -27,26 +27,23 @@ use Rattle.reply.specs.Shape.{chip_reply}
 use Rattle.reply.specs.Reply.{reply_text}
 use Rattle.reply.specs.Answers as R
 use Rattle.reply.proofs.AnswerLaws.{refused_out, refused_same, replied-rows, written_told}
-use Rattle.server_session.specs.declared.Phase.TheVariants.{Reading}
 use Rattle.server_session.specs.declared.ServerSession.{ServerSession}
 use Rattle.server_session.specs.declared.ServerStep.{ServerStep}
 use Rattle.server_session.specs.Session.{Session, session}
-use Rattle.server_session.specs.Call.{ServerSaid, server_refusing, ServerServed, server_step, server_lent}
+use Rattle.server_session.specs.Call.{ServerSaid, server_refusing, ServerServed, server_answer, server_step, server_lent}
+use Rattle.server_session.specs.Steps.{Answered}
 use Rattle.server_session.specs.Replies.{line_awaited, at_answered, answer_says, is_obd, obd_replied, reply_says, reject_says}
 
--- the step that sends what was written, with some settings, and the one that is refused
-abbrev pub sent_step : ClientState → List ℕ → ℕ → ServerStep
-sent_step state bytes written = record { answer = Ok Reading; taken = 0; written = written; session = record { state = state; line = record { bytes = bytes; len = 0 }; phase = Reading } }
-
+-- the step that is refused
 abbrev pub refused_step : ServerSession → Refusal → ServerStep
 refused_step self r = record { answer = Err r; taken = 0; written = 0; session = self }
 
 -- a text that fits is sent whole
-pub sent : (state : ClientState) (bytes text : List ℕ) {out left : List ℕ} {w : ℕ} → Put out 0 text w left → length text ≤ length out →
-    server_step (sent_step state bytes w) left ≡ server_lent (line_awaited (settings state) text) out
-sent state bytes text {out} {left} {w} p h =
-    let all : w ≡ length text = omega (arith, put_whole_lem p (omega arith)) in
-    rw (all, p.bytes)
+pub sent : (state : ClientState) (text : List ℕ) {out left : List ℕ} {w : ℕ} {r : ServerStep} → Answered state w r → Put out 0 text w left → length text ≤ length out →
+    server_step r left ≡ server_lent (line_awaited (settings state) text) out
+sent state text {out} {left} {w} {r} a p h =
+    let all : r.written ≡ length text = omega (arith, a.written, put_whole_lem p (omega arith)) in
+    λ i. record { answer = server_answer (a.answer i); taken = a.taken i; written = all i; next = a.next i; out = p.bytes i }
 
 -- how long a reply of one line is
 pub one_line : (linefeeds : Bool) (t : List ℕ) → length (chip_reply linefeeds (t ∷ [])) ≤ length t + 5
@@ -73,14 +70,14 @@ at_short lf ati device Unknown h i = omega (arith, one_line lf (ascii "?"))
 -- an AT command is handled and its answer, which fits, written
 module _ (self : ServerSession) (ati device : List ℕ) (state : ClientState) (kind : AtKind)
     (s : settings state ≡ kind_settings (at_kind (session self).line) (settings self.state)) (k : kind ≡ at_kind (session self).line) where
-  pub at_sent : {out left : List ℕ} {w : ℕ} → length (at_answered (session self) ati device).text ≤ length out →
+  pub at_sent : {out left : List ℕ} {w : ℕ} {r : ServerStep} → Answered state w r → length (at_answered (session self) ati device).text ≤ length out →
       Put out 0 (chip_reply (settings state).linefeeds (kind_lines ati device kind)) w left →
-      server_step (sent_step state self.line.bytes w) left ≡ server_lent (at_answered (session self) ati device) out
-  at_sent {out} {left} {w} fits p =
+      server_step r left ≡ server_lent (at_answered (session self) ati device) out
+  at_sent {out} {left} {w} a fits p =
       let same : line_awaited (settings state) (chip_reply (settings state).linefeeds (kind_lines ati device kind)) ≡ at_answered (session self) ati device =
       λ t. line_awaited (s t) (chip_reply (s t).linefeeds (kind_lines ati device (k t))) in
       let long = ap (λ (d : ServerSaid). length d.text) same in
-      sent state self.line.bytes (chip_reply (settings state).linefeeds (kind_lines ati device kind)) p (omega arith) ∙ ap (λ d. server_lent d out) same
+      sent state (chip_reply (settings state).linefeeds (kind_lines ati device kind)) a p (omega arith) ∙ ap (λ d. server_lent d out) same
 
 -- how long a reply of one line is, exactly
 pub one_size : (linefeeds : Bool) (t : List ℕ) → length (chip_reply linefeeds (t ∷ [])) ≡ length t + cond linefeeds 5 3
@@ -112,15 +109,15 @@ module _ (self : ServerSession) (list : List ℕ) (out left : List ℕ) (turn : 
       let kept = refused_out out text left rows r q₁ in
       rw (turn, says, kept)
 
-  pub reply-sent : (n : ℕ) (state : ClientState) → count_written (Ok n) left ≡ R.replied lf sp hd list out →
+  pub reply-sent : (n : ℕ) (state : ClientState) {r : ServerStep} → Answered state n r → count_written (Ok n) left ≡ R.replied lf sp hd list out →
       settings state ≡ with_last s.state s.line →
-      server_step (sent_step state self.line.bytes n) left ≡ server_lent (reply_says (length out) s list) out
+      server_step r left ≡ server_lent (reply_says (length out) s list) out
   unfolding reply_says unless
-  reply-sent n state q k =
+  reply-sent n state a q k =
       let (ls, rest, g, fits, p) = written_told lf sp hd list out q in
       let text = reply_text lf sp hd ls in
       let e : reply_says (length out) s list ≡ obd_replied s ls = rw (turn, g, le-ltb (length out) (length text) fits) in
-      sent state self.line.bytes text p fits ∙ ap (λ x. server_lent (line_awaited x text) out) k ∙ ap (λ d. server_lent d out) (sym e)
+      sent state text a p fits ∙ ap (λ x. server_lent (line_awaited x text) out) k ∙ ap (λ d. server_lent d out) (sym e)
 
 -- What the contracts give a caller: the bytes to send stand inside the lent buffer.
 within : (d : ServerSaid) (out left : List ℕ) (r : ServerStep) → length d.text ≤ length out → server_step r left ≡ server_lent d out → r.written ≤ length out

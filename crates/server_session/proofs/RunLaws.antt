@@ -1,7 +1,7 @@
 -- Laws of the loop over several bytes: a run, and the byte after it, leave what is still to be said.
 use mathlib.Core.Path.{◌≡◌, refl, sym, ap, ◌∙◌}
 use mathlib.Core.Bool.{Bool, true, false, cond, not}
-use mathlib.Core.List.{List, [], ◌∷◌, ◌++◌, append-nil}
+use mathlib.Core.List.{List, [], ◌∷◌, ◌++◌}
 use Prim.Native.Nat.{ℕ, suc, ◌+◌, ◌-◌, ◌≤◌, ◌<◌, min}
 use native.Mathlib.Nat.{add-zero}
 use native.Mathlib.Numerals.{add-one, one-add}
@@ -11,13 +11,12 @@ use lib.ListN.{length, take, drop, get_or, length-append, length-take, length-dr
 use lib.Seq.{sets, drop-drop, drop-cons}
 use borrow.Author.Tests.{eqb-true, eqb-false}
 use Rattle.std.specs.Prelude.{Ok, Err}
-use Rattle.std.proofs.lemmas.List.{take_at}
-use Rattle.std.proofs.lemmas.List.Edits.{sets-eq}
 use Rattle.std.proofs.lemmas.List.Sums.{prefix_len-le-length}
 use Rattle.wire.proofs.ListLaws.{take_min}
 use Rattle.wire.specs.Put.{Put}
 use Rattle.wire.specs.Text.{any}
 use Rattle.wire.specs.Bytes.{held}
+use Rattle.wire.specs.declared.Bytes.{Bytes}
 use Rattle.wire.specs.declared.Refusal.{Refusal}
 use Rattle.wire.proofs.Cases.{by_test}
 use Rattle.wire.proofs.PutLaws.{put_then, put_whole_lem, put_length, put_inside}
@@ -28,6 +27,7 @@ use Rattle.server_session.specs.Call.{ServerSaid, ServerServed, server_step}
 use Rattle.server_session.specs.Bytes.{with_line, echoed, byte_says, goes_on, bytes_say}
 use Rattle.server_session.specs.Steps.{is_special, plain_size, Takes, Refuses, RunFits, Ran}
 use Rattle.server_session.proofs.ByteLaws.{text_short}
+use Rattle.server_session.proofs.StepLaws.{joined}
 use Rattle.server_session.proofs.BytesLaws.{after, bytes_on, bytes_stop, echo_less, bytes_some}
 
 -- A run
@@ -36,15 +36,6 @@ use Rattle.server_session.proofs.BytesLaws.{after, bytes_on, bytes_stop, echo_le
 pub plain_front : (s : List ℕ) → any is_special (take (plain_size s) s) ≡ false
 plain_front [] = refl
 plain_front (b ∷ s) = by_test (is_special b) (λ e. rw e) (λ e. rw (e, one-add) (rw e (plain_front s)))
-
--- a text that was stored at the end of a line of so many bytes joins it
-pub joins : (line text : List ℕ) (len : ℕ) → length (take len line) + length text ≤ length line → take (len + length text) (sets line len text) ≡ take len line ++ text
-joins line [] len h = rw add-zero (sym (append-nil (take len line)))
-joins line (b ∷ text) len h =
-    let all = b ∷ text in
-    let fits : len + length all ≤ length line = omega (arith, length-take len line) in
-    rw (sets-eq all line len fits)
-    (take_at (take len line ++ all) (drop (len + length all) line) (len + length all) (omega (arith, length-append (take len line) all, length-take len line)))
 
 -- a shorter run fits too
 pub fits_less : {s : Session} {left free most : ℕ} (n : ℕ) → n ≤ most → RunFits s left free most → RunFits s left free n
@@ -60,7 +51,7 @@ fits_less {s} {left} {free} {most} n h f = record {
     echo_most false m n h = omega arith
 
 -- the run that stands at the front of what fits
-module _ (self : ServerSession) (input : List ℕ) (i : ℕ) (out : List ℕ) (at : ℕ) {m n most free : ℕ} (size : length self.line.bytes ≡ 128) (f : RunFits (session self) (length input - i) free most)
+module _ (self : ServerSession) (input : List ℕ) (i : ℕ) (out : List ℕ) (at : ℕ) {m n most free : ℕ} (f : RunFits (session self) (length input - i) free most)
     (e : m ≡ most) (room : free ≡ length out - at) (k : n ≡ plain_size (take m (drop i input))) where
   short : n ≤ most
   short = omega (arith, k, prefix_len-le-length (λ b. not (is_special b)) (take m (drop i input)), length-take m (drop i input))
@@ -71,18 +62,14 @@ module _ (self : ServerSession) (input : List ℕ) (i : ℕ) (out : List ℕ) (a
   plain : any is_special (take n (drop i input)) ≡ false
   plain = let front = plain_front (take m (drop i input)) in rw (← one) (rw (← k) at front)
 
-  line : {l : List ℕ} {end : ℕ} → Put self.line.bytes self.line.len (take n (take m (drop i input))) end l → take (self.line.len + n) l ≡ held self.line ++ take n (drop i input)
-  line {l} p =
-      let text = take n (drop i input) in
-      let long : length text ≡ n = omega (arith, short, length-take n (drop i input), length-drop i input, f.there) in
-      let all = joins self.line.bytes text self.line.len (omega (arith, f.line, short, long, size)) in
-      rw (p.bytes, one) (rw long at all)
+  line : {l : List ℕ} → l ≡ take 128 (held self.line ++ take n (take m (drop i input))) → l ≡ held self.line ++ take n (drop i input)
+  line p = joined (held self.line) (take n (drop i input)) 128 (omega (arith, f.line, short, length-take n (drop i input))) (rw one at p)
 
-  pub ran_front : {l o : List ℕ} {end next : ℕ} → Put self.line.bytes self.line.len (take n (take m (drop i input))) end l →
+  pub ran_front : (b : Bytes 128) {o : List ℕ} {next : ℕ} → held b ≡ take 128 (held self.line ++ take n (take m (drop i input))) →
       Put out at (cond self.state.echo_enabled (take n (take m (drop i input))) []) next o →
       Ran (session self) input i out at (record { next = i + n; at = next })
-      (session (record { state = self.state; line = record { bytes = l; len = self.line.len + n }; phase = self.phase })) o
-  ran_front p q = record {
+      (session (record { state = self.state; line = b; phase = self.phase })) o
+  ran_front b p q = record {
     count = n;
     ends = refl;
     fits = rw room at (fits_less n short f);

@@ -1,12 +1,11 @@
 -- Laws of the code's steps: each does what is said, from a position of the out buffer on.
-use mathlib.Core.Path.{◌≡◌, refl, sym}
+use mathlib.Core.Path.{◌≡◌, refl, sym, ◌∙◌}
 use mathlib.Core.List.{List, [], ◌∷◌, ◌++◌}
-use Prim.Native.Nat.{ℕ, ◌+◌, ◌-◌, ◌<◌}
+use Prim.Native.Nat.{ℕ, ◌+◌, ◌-◌, ◌≤◌}
 use native.Mathlib.Nat.{sub-zero}
-use native.Mathlib.Numerals.{add-one}
 use native.Mathlib.Omega.{arith}
-use lib.ListN.{length, take, set}
-use lib.Seq.{take-suc-set}
+use lib.ListN.{length, length-append, take}
+use lib.Seq.{take_all}
 use Rattle.std.specs.Prelude.{Ok, Err}
 use Rattle.wire.specs.Answer.{number}
 use Rattle.wire.specs.declared.Refusal.{Refusal}
@@ -54,9 +53,9 @@ module _ (s : Session) (b : ℕ) {out o₁ : List ℕ} {at a : ℕ} (echo : Put 
   pub take_plain : (b ≡ 13 → ⊥) → (b ≡ 10 → ⊥) → s.phase ≡ Reading → {next : Session} → next ≡ with_line s (s.line ++ (b ∷ [])) s.phase → Takes (byte_taken s b) out at a next o₁
   take_plain p q t e = rw (taken_plain s b p q, e, t) (record { answer = refl; taken = refl; after = refl; text = echo })
 
--- the byte joins the line
-pub joined : (line : List ℕ) (len b : ℕ) → len < length line → take (len + 1) (set line len b) ≡ take len line ++ (b ∷ [])
-joined line len b h = rw add-one (take-suc-set line len b h)
+-- bytes that fit join the line whole
+pub joined : (line text : List ℕ) (n : ℕ) {l : List ℕ} → length line + length text ≤ n → l ≡ take n (line ++ text) → l ≡ line ++ text
+joined line text n h e = e ∙ take_all n (line ++ text) (omega (arith, h, length-append line text))
 
 -- a byte that is said to be taken is one that the line accepts
 pub accepts : (room : ℕ) (s : Session) (b : ℕ) → byte_says room s b ≡ byte_taken s b → Accepts s b

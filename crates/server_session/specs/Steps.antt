@@ -1,13 +1,16 @@
 -- What the private steps of the code do. No public contract cites these.
-use Rattle.std.specs.Prelude.{◌≡◌, Bool, false, cond, not, ◌||◌, List, ◌++◌, ℕ, ◌+◌, ◌-◌, ◌≤◌, ◌<◌, eqb, leb, length, take, drop, Result, Ok, Err}
+use Rattle.std.specs.Prelude.{◌≡◌, Bool, false, cond, not, ◌||◌, List, [], ◌++◌, ℕ, ◌+◌, ◌-◌, ◌≤◌, ◌<◌, eqb, leb, length, take, drop, Result, Ok, Err}
 use Rattle.std.specs.List.{prefix_len}
 use Rattle.wire.specs.Answer.{result, number}
 use Rattle.wire.specs.Put.{Put}
 use Rattle.wire.specs.Text.{any}
 use Rattle.wire.specs.declared.Refusal.{Refusal}
+use Rattle.client_state.specs.Settings.{settings}
+use Rattle.client_state.specs.declared.ClientState.{ClientState}
 use Rattle.server_session.specs.declared.Phase.TheVariants.{Reading}
 use Rattle.server_session.specs.declared.Run.{Run}
 use Rattle.server_session.specs.declared.ServerSession.{ServerSession}
+use Rattle.server_session.specs.declared.ServerStep.{ServerStep}
 use Rattle.server_session.specs.Session.{Session, session}
 use Rattle.server_session.specs.Call.{ServerSaid, server_refusing}
 use Rattle.server_session.specs.Bytes.{with_line, echoed}
@@ -57,3 +60,10 @@ pub record Ran (s : Session) (input : List ℕ) (i : ℕ) (out : List ℕ) (at :
   pub plain : any is_special (take count (drop i input)) ≡ false
   pub joins : s₁ ≡ with_line s (s.line ++ take count (drop i input)) s.phase
   pub sent : Put out at (echoed s (take count (drop i input))) r.at out₁
+
+-- A step after an answer of so many bytes: with some settings the next line is awaited.
+pub record Answered (state : ClientState) (size : ℕ) (r : ServerStep) : Type 0 where
+  pub answer : r.answer ≡ Ok Reading
+  pub taken : r.taken ≡ 0
+  pub written : r.written ≡ size
+  pub next : session r.session ≡ record { state = settings state; line = []; phase = Reading }

@@ -86,14 +86,6 @@ fn make_canonical(line: &mut Bytes<128>)
     line.len = n;
 }
 
-// How many bytes may still join a line.
-#[tactic(auto, using(wire::proofs::BytesLaws::held_short))]
-fn places_left(line: &Bytes<128>) -> usize
-    ensures { length (held line.now) + result ≡ 128 }
-{
-    128usize.saturating_sub(line.len)
-}
-
 // The kind of a command.
 fn command_phase(command: &[u8]) -> Phase
     ensures { result ≡ command_phase command.now }
@@ -153,7 +145,7 @@ impl ServerSession {
             return Err(Refusal::ByteNotAscii);
         }
         // CR and LF need no place in the line.
-        if places_left(&self.line) == 0 && b != b'\r' && b != b'\n' {
+        if self.line.room() == 0 && b != b'\r' && b != b'\n' {
             return Err(Refusal::LineFull);
         }
         Ok(())
@@ -198,8 +190,7 @@ impl ServerSession {
         if b == b'\n' {
             return end;
         }
-        self.line.bytes[self.line.len] = b;
-        self.line.len += 1;
+        self.line.push(b);
         end
     }
 
@@ -215,7 +206,7 @@ impl ServerSession {
     fn run_room(&self, left: usize, room: usize) -> usize
         ensures { RunFits (session self.now) left room result }
     {
-        let most = left.min(places_left(&self.line));
+        let most = left.min(self.line.room());
         if self.phase != Phase::Reading || room < 8 {
             return 0;
         }
@@ -235,8 +226,7 @@ impl ServerSession {
         let run = &input[i..i + most];
         let n = plain_size(run);
         let run = &run[..n];
-        wire::put(&mut self.line.bytes, self.line.len, run);
-        self.line.len += n;
+        self.line.append(run);
         Run {
             next: i + n,
             at: put_echo(out, at, self.state.echo_enabled, run),

@@ -7,6 +7,7 @@ ghost use Rattle.reply.specs.Shape.{chip_reply};
 ghost use Rattle.at_command.specs.Dialect.{kind_lines};
 ghost use Rattle.server_session.specs.Session.{session};
 ghost use Rattle.server_session.specs.Call.{server_refusing, server_step, server_lent};
+ghost use Rattle.server_session.specs.Steps.{Answered};
 ghost use Rattle.server_session.specs.Replies.{line_awaited, answer_says, at_answered, reply_says, reject_says};
 
 use crate::{Phase, ServerSession, ServerStep};
@@ -104,16 +105,10 @@ impl ServerSession {
 
     // The command has been answered: with settings as they are now the next line is read.
     fn answered(mut self, state: ClientState, written: usize) -> ServerStep
-        ensures { result ≡ record {
-          answer = Ok Phase.Reading;
-          taken = 0;
-          written = written;
-          session = record
-              { state = state; line = record { bytes = self.line.bytes; len = 0 }; phase = Phase.Reading };
-        } }
+        ensures { Answered state written result }
     {
         self.state = state;
-        self.line.len = 0;
+        self.line.clear();
         self.phase = Phase::Reading;
         ServerStep {
             answer: Ok(Phase::Reading),

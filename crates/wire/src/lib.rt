@@ -6,7 +6,7 @@ ghost use Rattle.wire.specs.Answer.{number};
 ghost use Rattle.wire.specs.Put.{Put};
 ghost use Rattle.wire.specs.Text.{same, begins, has, high, is_space, raised};
 ghost use Rattle.wire.specs.Bytes.{held};
-ghost use Rattle.std.specs.Prelude.{[], ◌∷◌, min, ◌≡◌, take};
+ghost use Rattle.std.specs.Prelude.{[], ◌∷◌, ◌++◌, ◌+◌, min, ◌≡◌, length, take};
 
 // Why a call gives no result: a case for each number of document 01, in their order.
 #[derive(Clone, Copy, PartialEq, Eq, Debug)]
@@ -179,6 +179,31 @@ impl<const N: usize> Bytes<N> {
         ensures { held self.new ≡ [] }
     {
         self.len = 0;
+    }
+
+    // A text joins what is held, cut after N bytes in all. An empty one leaves the fields as they are, whatever they hold.
+    #[tactic(auto, using(crate::proofs::PutLaws::put_joins))]
+    pub fn append(&mut self, text: &[u8])
+        ensures joined { held self.new ≡ take N (held self.old ++ text.now) }
+        ensures unchanged { text.now ≡ [] → self.new ≡ self.old }
+    {
+        self.len = put(&mut self.bytes, self.len, text);
+    }
+
+    // A byte joins what is held, where there is a place for it.
+    #[tactic(auto, using(crate::proofs::PutLaws::put_joins))]
+    pub fn push(&mut self, byte: u8)
+        ensures { held self.new ≡ take N (held self.old ++ (byte ∷ [])) }
+    {
+        self.len = put_byte(&mut self.bytes, self.len, byte);
+    }
+
+    // How many bytes may still join.
+    #[tactic(auto, using(crate::proofs::BytesLaws::held_short))]
+    pub fn room(&self) -> usize
+        ensures { length (held self.now) + result ≡ N }
+    {
+        N.saturating_sub(self.len)
     }
 
     pub fn as_slice(&self) -> &[u8]

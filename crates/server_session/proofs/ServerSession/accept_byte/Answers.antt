@@ -1,8 +1,7 @@
 -- `server_session::ServerSession::accept_byte` meets its contract.
-use mathlib.Core.Path.{◌≡◌}
+use mathlib.Core.List.{[], ◌∷◌}
 use native.Mathlib.Omega.{arith}
-use borrow.Author.Rules.{rules}
-use lib.ListN.{length, length-take}
+use Rattle.wire.specs.Bytes.{held}
 use Rattle.server_session.specs.Session.{session}
 use Rattle.server_session.specs.Bytes.{with_line}
 use Rattle.server_session.proofs.StepLaws.{take_cr, take_lf, take_plain, joined}
@@ -17,7 +16,5 @@ returns-then-b-eq10 c = take_lf (session c.args.self.now) c.args.b c.put_echo-en
 pub returns : goal.returns
 returns c =
     let self = c.args.self.now in
-    let size : length self.line.bytes ≡ 128 = search rules in
-    let short = c.requires.short c.if-b-eq13.false c.if-b-eq10.false in
-    let line = joined self.line.bytes self.line.len c.args.b (omega (arith, length-take self.line.len self.line.bytes)) in
+    let line = joined (held self.line) (c.args.b ∷ []) 128 (omega (arith, c.requires.short c.if-b-eq13.false c.if-b-eq10.false)) c.push.ensures in
     take_plain (session self) c.args.b c.put_echo-end.ensures c.if-b-eq13.false c.if-b-eq10.false c.requires.turn (λ i. with_line (session self) (line i) self.phase)

@@ -8,5 +8,5 @@ pub returns-clause-out_after : goal.returns-clause-out_after
 returns-clause-out_after c =
     let a = c.args in
     let d = rw c.in_default.is at c.reject_verdict.ensures in
-    rw (d, c.answered.ensures)
-    (sent a.self.state a.self.line.bytes _ c.put_text_reply-written.ensures (rw d at (reject_fits (length a.out.now) (session a.self) a.text.now)))
+    rw d
+    (sent a.self.state _ c.answered.ensures c.put_text_reply-written.ensures (rw d at (reject_fits (length a.out.now) (session a.self) a.text.now)))

@@ -17,4 +17,4 @@ pub returns-in-Ok-clause-out_after : goal.returns-in-Ok-clause-out_after
 returns-in-Ok-clause-out_after c =
     let turn : is_obd c.args.self.phase ≡ true = search rules in
     let last = c.with_last-state.ensures ∙ ap (with_last (session c.args.self).state) c.as_slice.ensures in
-    rw c.answered.ensures (reply-sent c.args.self c.args.list.now c.args.out.now _ turn _ c.with_last-state.result c.in-Ok.ensures last)
+    reply-sent c.args.self c.args.list.now c.args.out.now _ turn _ c.with_last-state.result c.answered.ensures c.in-Ok.ensures last
