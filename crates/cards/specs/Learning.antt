@@ -97,9 +97,11 @@ learning =
         want_framing = true;
         server = record { framing = false; repeat = support.Unknown; multi_pid = support.Unknown; pid_lengths = mode01_lengths; ecu_counts = set (replicate 256 0) 0x0C 1 };
         last = record { bytes = ascii "010C" ++ replicate 14 0; len = 4 };
-        query = record { bytes = ascii "010C" ++ replicate 14 0; len = 4 };
-        pids = record { bytes = 0x0C ∷ replicate 5 0; len = 1 };
-        several = false;
+        query = record {
+          text = record { bytes = ascii "010C" ++ replicate 14 0; len = 4 };
+          pids = record { bytes = 0x0C ∷ replicate 5 0; len = 1 };
+          several = false;
+        };
         pending = record { under = under.Idle; got = 0 };
       };
     }) (0x0C ∷ 0x00 ∷ 0x04 ∷ 0x41 ∷ 0x0C ∷ 0x1A ∷ 0xF8 ∷ 9 ∷ 9 ∷ [])) ∷
