@@ -11,13 +11,13 @@ use Rattle.driver_server.proofs.ServerDriven.call.Goals as goal
 pub returns : goal.returns
 returns c =
     let here = turn_at (session c.args.self.now.session) c.args.at c.args.out.now c.args.log.now in
-    let step = c.match-kind.step in
+    let s = session c.match-kind.step.session in
     elim c.match-kind.branch [
       | in-1 w ↦ search rules
       | in-2 w ↦ search rules
       | in-3 w ↦ search rules
       | in-4 w ↦
-          let logged : turn_at (session step.session) c.put_call.result c.match-kind.out c.put_call.new.log ≡ call_noted here 0 (server_step w.answer-step.result w.answer-step.new.out) = search rules in
+          let logged : turn_at s c.put_call.result c.match-kind.out c.put_call.new.log ≡ call_noted here 0 (server_step w.answer-step.result w.answer-step.new.out) = search rules in
           rw w.in-4.is (logged ∙ ap (call_noted here 0) w.answer-step.ensures.out_after)
       | in-5 w ↦ search rules
       | in-6 w ↦ search rules
