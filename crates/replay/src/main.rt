@@ -4,7 +4,7 @@
 // text.
 #![tactic(auto)]
 
-ghost use Rattle.std.specs.Prelude.{◌≡◌, ◌≤◌, ◌<◌, length, IfSome};
+ghost use Rattle.std.specs.Prelude.{◌≡◌, ◌++◌, ◌≤◌, ◌<◌, length, drop, IfSome};
 ghost use Rattle.replay.specs.Compare.{agreeing, judged, tallied};
 
 use reading::read_input;
@@ -63,7 +63,7 @@ fn add_case(before: Tally, differs: Option<usize>) -> Tally
 }
 
 fn read_number(list: &[u8]) -> Option<(usize, &[u8])>
-    ensures { IfSome result (λ r. length r.1.now ≤ length list.now) }
+    ensures { IfSome result (λ r. r.1.now ≡ drop 2 list.now) }
 {
     let [low, high, rest @ ..] = list else {
         return None;
@@ -73,14 +73,15 @@ fn read_number(list: &[u8]) -> Option<(usize, &[u8])>
 
 // A text of n bytes, or of all where there are fewer, and what stands behind it.
 fn read_text(list: &[u8], n: usize) -> (&[u8], &[u8])
-    ensures { length result.1.now ≤ length list.now }
+    ensures { result.0.now ++ result.1.now ≡ list.now }
 {
     list.split_at(n.min(list.len()))
 }
 
-// The first entry of a list, if its numbers are there, and the list behind it.
+// The first entry of a list, if its numbers are there, and the list behind it. The texts of the entry stand one after the other behind its nine bytes.
 fn read_entry(list: &[u8]) -> Option<(Entry<'_>, &[u8])>
-    ensures { IfSome result (λ r. length r.1.now < length list.now) }
+    ensures shorter { IfSome result (λ r. length r.1.now < length list.now) }
+    ensures texts { IfSome result (λ r. r.0.pieces.now ++ (r.0.script.now ++ (r.0.stored.now ++ r.1.now)) ≡ drop 9 list.now) }
 {
     let (kind, rest) = list.split_first()?;
     let (room, rest) = read_number(rest)?;
@@ -179,13 +180,16 @@ fn print_tally<W: Write>(to: &mut W, tally: Tally) {
     );
 }
 
-// A heading: what stood under the one before it, if there was one, is said first.
-fn head<W: Write>(to: &mut W, title: &[u8], before: Option<Tally>) {
+// A heading: what stood under the one before it, if there was one, is said first. No case stands under it yet.
+fn head<W: Write>(to: &mut W, title: &[u8], before: Option<Tally>) -> Tally
+    ensures { result.cases ≡ 0 }
+{
     if let Some(tally) = before {
         print_tally(to, tally);
     }
     let _ = to.write_all(title);
     let _ = to.write_all(b": ");
+    Tally::default()
 }
 
 fn main(rt: HostRuntime) {
@@ -199,8 +203,7 @@ fn main(rt: HostRuntime) {
     let mut rest = &list[..n];
     while let Some((entry, left)) = read_entry(rest) {
         let tally = if entry.kind == 0 {
-            head(&mut to, entry.stored, under);
-            Tally::default()
+            head(&mut to, entry.stored, under)
         } else {
             let differs = replay(entry, &mut store, &mut out, &mut log);
             add_case(under.unwrap_or_default(), differs)
