@@ -161,6 +161,7 @@ impl ServerSession {
             return reply::put_text_reply(out, at, b"?", self.state.linefeeds_enabled);
         }
         self.line = self.state.last_obd_command;
+        self.line.len = self.state.last_size();
         self.phase = Phase::ObdCommand;
         at
     }
