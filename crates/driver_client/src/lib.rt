@@ -143,7 +143,11 @@ fn put_pids(server: ServerState, pids: &[u8], log: &mut [u8], at: usize) -> usiz
 {
     let mut at = at;
     for &pid in pids {
-        at = driver_log::put_number(log, at, length_number(server.data_length(pid)));
+        at = driver_log::put_number(
+            log,
+            at,
+            length_number(pid::data_length(&server.pid_lengths, pid)),
+        );
         at = driver_log::put_number(log, at, count_number(server.ecu_count(pid)));
     }
     at

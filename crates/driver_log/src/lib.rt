@@ -11,7 +11,8 @@ ghost use Rattle.driver_log.specs.Script.{argument_length, calls, rounds};
 pub fn put_number(log: &mut [u8], at: usize, n: usize) -> usize
     ensures { Put log.old at (number_bytes n) result log.new }
 {
-    wire::put(log, at, &((n % 65536) as u16).to_le_bytes())
+    let next = wire::put_byte(log, at, (n % 256) as u8);
+    wire::put_byte(log, next, (n / 256 % 256) as u8)
 }
 
 // A text after its length.
