@@ -1,10 +1,10 @@
 -- Laws of the code's steps: each does what is said, from a position of the out buffer on.
 use mathlib.Core.Path.{◌≡◌, refl, sym, ◌∙◌}
 use mathlib.Core.List.{List, [], ◌∷◌, ◌++◌}
-use Prim.Native.Nat.{ℕ, ◌+◌, ◌-◌, ◌≤◌}
+use Prim.Native.Nat.{ℕ, ◌+◌, ◌-◌, ◌≤◌, min}
 use native.Mathlib.Nat.{sub-zero}
 use native.Mathlib.Omega.{arith}
-use lib.ListN.{length, length-append, take}
+use lib.ListN.{length, length-append, length-take, take}
 use lib.Seq.{take_all}
 use Rattle.std.specs.Prelude.{Ok, Err}
 use Rattle.wire.specs.Answer.{number}
@@ -20,6 +20,10 @@ use Rattle.server_session.specs.Call.{ServerSaid, server_refusing, server_step, 
 use Rattle.server_session.specs.Bytes.{canonical, with_line, echoed, command_phase, empty_line, line_end, byte_taken, byte_says}
 use Rattle.server_session.specs.Steps.{Accepts, Takes, Refuses}
 use Rattle.server_session.proofs.ByteLaws.{open_of, line_empty, line_command, after_text, taken_cr, taken_lf, taken_plain, text_short}
+
+-- as many bytes of a line count as it has
+pub line_size_lem : (n : ℕ) (line : List ℕ) → length line ≡ 128 → length (take n line) ≡ min n 128
+line_size_lem n line k = omega (arith, length-take n line)
 
 -- a text is put, and a step goes on after it
 takes_after : {d : ServerSaid} {next : Session} {e out o₁ left : List ℕ} {at a end : ℕ} → Put out at e a o₁ → Takes d o₁ a end next left → Takes (after_text e d) out at end next left
