@@ -1,5 +1,5 @@
-// A command is started: the initialisation, a raw command or a query. The starts are not inlined: a caller of several would clear room for the sessions of all of them
-// at each of its calls.
+// A command is started: the initialisation, a raw command or a query. A query is not started in its caller: one that makes both kinds of query would clear room for the
+// sessions of both at each of its calls.
 ghost use Rattle.std.specs.Prelude.{◌≡◌, Bool, false, true, [], ◌∷◌, ℕ, ◌≤◌, length};
 ghost use Rattle.wire.specs.Steps.{settled};
 ghost use Rattle.wire.specs.Text.{ascii};
@@ -89,7 +89,6 @@ impl ClientSession {
     }
 
     // Starts the initialisation: ATZ goes out. It is no raw command, and forgets nothing.
-    #[inline(never)]
     pub fn init(self, out: &mut [u8]) -> ClientStep
         ensures out_after { client_step result out.new ≡ client_lent (init_says (length out.old) (client self)) out.old }
         ensures refused_or_failed { RefusedOrFailed result self }
@@ -102,7 +101,6 @@ impl ClientSession {
     }
 
     // Starts a raw command. The last query is forgotten, since a bare CR would now repeat this command.
-    #[inline(never)]
     pub fn command(mut self, command: &[u8], out: &mut [u8]) -> ClientStep
         ensures out_after { client_step result out.new ≡ client_lent (command_says (length out.old) (client self) command.now) out.old }
         ensures refused_or_failed { RefusedOrFailed result self }

@@ -1,5 +1,5 @@
 -- Scripts on a client session: each call is what the session's own definition says of it.
-use Rattle.std.specs.Prelude.{true, false, cond, ◌||◌, List, [], ◌∷◌, ◌++◌, ℕ, suc, eqb, length, take, drop, get_or}
+use Rattle.std.specs.Prelude.{true, false, cond, List, [], ◌∷◌, ◌++◌, ℕ, suc, eqb, length, take, drop, get_or}
 use Rattle.std.proofs.Math.Option.{Option, none, some}
 use Rattle.std.proofs.lemmas.List.Edits.{sets}
 use Rattle.wire.specs.Answer.{Answer, result, refused}
@@ -37,14 +37,6 @@ step_code (refused n) = n
 abbrev pub count_entry : Answer Progress → ℕ
 count_entry (result p) = value_count p
 count_entry (refused n) = 0
-
--- the code of a call's answer, by its kind: a piece, a finish and the two failures go on with what was started
-abbrev pub code_of : ℕ → Answer Progress → ℕ
-code_of kind a = cond (eqb kind 4 || eqb kind 5 || eqb kind 8 || eqb kind 9) (step_code a) (start_code a)
-
--- how many values a call gave, by its kind
-abbrev pub count_of_kind : ℕ → Answer Progress → ℕ
-count_of_kind kind a = cond (eqb kind 5) (count_entry a) 0
 
 abbrev pub support_code : FeatureSupport → ℕ
 support_code support.Unknown = 0
@@ -86,17 +78,23 @@ pub record Stored : Type 0 where
   pub store : List ℕ
 
 -- a call as the host sees it is noted
+abbrev pub start_turn : ℕ → List ℕ → ClientServed → Turn Client
+start_turn at log r = answered at log (start_code r.answer) 0 r.written r.next r.out
+
+abbrev pub step_turn : ℕ → List ℕ → ClientServed → Turn Client
+step_turn at log r = answered at log (step_code r.answer) 0 r.written r.next r.out
+
+abbrev pub finish_turn : ℕ → List ℕ → ClientServed → Turn Client
+finish_turn at log r = answered at log (step_code r.answer) (count_entry r.answer) r.written r.next r.out
+
 abbrev pub start_noted : Stored → ClientServed → Stored
-start_noted t r = record { turn = answered t.turn.at t.turn.log (start_code r.answer) 0 r.written r.next r.out; store = t.store }
+start_noted t r = record { turn = start_turn t.turn.at t.turn.log r; store = t.store }
 
 abbrev pub piece_noted : Stored → ClientServed → List ℕ → Stored
-piece_noted t r store = record { turn = answered t.turn.at t.turn.log (step_code r.answer) 0 r.written r.next r.out; store = store }
+piece_noted t r store = record { turn = step_turn t.turn.at t.turn.log r; store = store }
 
 abbrev pub finish_noted : Stored → ClientServed → Stored
-finish_noted t r = record {
-  turn = answered t.turn.at t.turn.log (step_code r.answer) (count_entry r.answer) r.written r.next r.out;
-  store = t.store;
-}
+finish_noted t r = record { turn = finish_turn t.turn.at t.turn.log r; store = t.store }
 
 abbrev pub shown : Stored → List ℕ → Stored
 shown t entry = record { turn = noted t.turn.session t.turn.at t.turn.out t.turn.log entry; store = t.store }

@@ -1,16 +1,19 @@
 // Runs scripts of calls on a client session, and logs what each call answered.
 #![tactic(auto)]
 
-ghost use Rattle.std.specs.Prelude.{◌≡◌, refl, take, drop};
+ghost use Rattle.std.specs.Prelude.{◌≡◌, List, [], ◌∷◌, ℕ, true, false, refl, length, take, drop};
 ghost use Rattle.wire.specs.Put.{Put};
 ghost use Rattle.wire.specs.Answer.{number, number_of};
 ghost use Rattle.query.specs.Query.{count_of};
 ghost use Rattle.client_session.specs.Session.{client, fresh_client};
-ghost use Rattle.client_session.specs.Call.{client_answer, refusal_of};
+ghost use Rattle.client_session.specs.Call.{client_answer, client_lent, refusal_of};
+ghost use Rattle.client_session.specs.Start.{init_says, command_says, query_says};
+ghost use Rattle.client_session.specs.Piece.{piece_says, store_after, failure_says};
+ghost use Rattle.client_session.specs.Finish.{finish_says};
 ghost use Rattle.driver_log.specs.Log.{text_entry, turn_at, answered};
 ghost use Rattle.driver_log.specs.Script.{rounds};
-ghost use Rattle.driver_client.specs.Client.{start_code, step_code, code_of, count_of_kind, support_code, command_code, under_code, length_number, pids_entry};
-ghost use Rattle.driver_client.specs.Client.{state_entry, count_given, Stored, client_call, client_at, client_run, stored_of, stored_as};
+ghost use Rattle.driver_client.specs.Client.{start_code, step_code, count_entry, support_code, command_code, under_code, length_number, pids_entry};
+ghost use Rattle.driver_client.specs.Client.{state_entry, count_given, start_turn, step_turn, finish_turn, Stored, client_call, client_at, client_run, stored_of, stored_as};
 
 use client_session::{
     ClientAnswer, ClientError, ClientSession, ClientStep, Command, Failure, Under,
@@ -54,22 +57,12 @@ fn step_code(answer: Result<ClientAnswer, ClientError>) -> u8
     }
 }
 
-// The code of a call's answer, by its kind.
-fn code_of(kind: u8, answer: Result<ClientAnswer, ClientError>) -> u8
-    ensures { result ≡ code_of kind (client_answer answer) }
-{
-    match kind {
-        4 | 5 | 8 | 9 => step_code(answer),
-        _ => start_code(answer),
-    }
-}
-
-// How many values a call gave, by its kind: a finish alone gives values.
-fn count_of_kind(kind: u8, answer: Result<ClientAnswer, ClientError>) -> usize
-    ensures { result ≡ count_of_kind kind (client_answer answer) }
+// How many values a finish gave.
+fn value_count(answer: Result<ClientAnswer, ClientError>) -> usize
+    ensures { result ≡ count_entry (client_answer answer) }
 {
     match answer {
-        Ok(ClientAnswer::Values(count)) if kind == 5 => count,
+        Ok(ClientAnswer::Values(count)) => count,
         _ => 0,
     }
 }
@@ -153,28 +146,132 @@ fn put_pids(server: ServerState, pids: &[u8], log: &mut [u8], at: usize) -> usiz
     at
 }
 
-// The entry of a session's state: framing, repeat, multi-PID support, what is under way, the last query, and what is known of the PIDs in the argument.
-fn put_state(session: ClientSession, arg: &[u8], log: &mut [u8], at: usize) -> usize
-    ensures { Put log.old at (state_entry (client session) arg.now) result log.new }
-{
-    let server = session.server;
-    let first = [
-        driver_log::flag(server.framing()),
-        support_code(server.repeat()),
-        support_code(server.multi_pid()),
-        under_code(session.pending.under),
-    ];
-    let at = wire::put(log, at, &first);
-    let at = driver_log::put_text(log, at, session.last.as_slice());
-    put_pids(server, arg, log, at)
+// The two entries that show a session are not inlined: the session then stays whole in memory, and a call that does nothing with a part of it copies it at once.
+impl Client {
+    // The entry of a session's state: framing, repeat, multi-PID support, what is under way, the last query, and what is known of the PIDs in the argument.
+    #[inline(never)]
+    fn put_state(&self, arg: &[u8], log: &mut [u8], at: usize) -> usize
+        ensures { Put log.old at (state_entry (client self.now.session) arg.now) result log.new }
+    {
+        let server = self.session.server;
+        let first = [
+            driver_log::flag(server.framing()),
+            support_code(server.repeat()),
+            support_code(server.multi_pid()),
+            under_code(self.session.pending.under),
+        ];
+        let at = wire::put(log, at, &first);
+        let at = driver_log::put_text(log, at, self.session.last.as_slice());
+        put_pids(server, arg, log, at)
+    }
+
+    // The entry of the reply so far, as the store holds it: after a raw command, its reply.
+    #[inline(never)]
+    fn put_reply(&self, store: &[u8], log: &mut [u8], at: usize) -> usize
+        ensures { Put log.old at (text_entry (take (client self.now.session).got store.now)) result log.new }
+    {
+        let size = self.session.pending.got.min(store.len());
+        driver_log::put_text(log, at, &store[..size])
+    }
 }
 
-// The entry of the reply so far, as the store holds it: after a raw command, its reply.
-fn put_reply(session: ClientSession, store: &[u8], log: &mut [u8], at: usize) -> usize
-    ensures { Put log.old at (text_entry (take (client session).got store.now)) result log.new }
-{
-    let size = session.pending.got.min(store.len());
-    driver_log::put_text(log, at, &store[..size])
+// The calls that answer with a step, each with its entry in the log. Each has a step of its own, since one for all of them would be cleared and copied at each call.
+impl Client {
+    // The session goes on as the step has it, and the call is logged.
+    fn keep(
+        &mut self,
+        step: &ClientStep,
+        code: u8,
+        count: usize,
+        out: &[u8],
+        log: &mut [u8],
+        at: usize,
+    ) -> usize
+        ensures { turn_at (client self.new.session) result out.now log.new ≡ answered at log.old code count step.now.written (client step.now.session) out.now }
+    {
+        self.session = step.session;
+        driver_log::put_call(log, at, code, count, out, step.written)
+    }
+
+    fn init(&mut self, out: &mut [u8], log: &mut [u8], at: usize) -> usize
+        ensures { turn_at (client self.new.session) result out.new log.new ≡
+            start_turn at log.old (client_lent (init_says (length out.old) (client self.old.session)) out.old) }
+    {
+        let step = self.session.init(out);
+        self.keep(&step, start_code(step.answer), 0, out, log, at)
+    }
+
+    fn command(&mut self, command: &[u8], out: &mut [u8], log: &mut [u8], at: usize) -> usize
+        ensures { turn_at (client self.new.session) result out.new log.new ≡
+            start_turn at log.old (client_lent (command_says (length out.old) (client self.old.session) command.now) out.old) }
+    {
+        let step = self.session.command(command, out);
+        self.keep(&step, start_code(step.answer), 0, out, log, at)
+    }
+
+    fn query_pid(
+        &mut self,
+        pid: u8,
+        count: Option<u8>,
+        out: &mut [u8],
+        log: &mut [u8],
+        at: usize,
+    ) -> usize
+        ensures { turn_at (client self.new.session) result out.new log.new ≡
+            start_turn at log.old (client_lent (query_says (length out.old) (client self.old.session) (pid ∷ []) (count_of count) false) out.old) }
+    {
+        let step = self.session.query_pid(pid, count, out);
+        self.keep(&step, start_code(step.answer), 0, out, log, at)
+    }
+
+    fn query_pids(
+        &mut self,
+        pids: &[u8],
+        count: Option<u8>,
+        out: &mut [u8],
+        log: &mut [u8],
+        at: usize,
+    ) -> usize
+        ensures { turn_at (client self.new.session) result out.new log.new ≡
+            start_turn at log.old (client_lent (query_says (length out.old) (client self.old.session) pids.now (count_of count) true) out.old) }
+    {
+        let step = self.session.query_pids(pids, count, out);
+        self.keep(&step, start_code(step.answer), 0, out, log, at)
+    }
+
+    fn piece(
+        &mut self,
+        piece: &[u8],
+        store: &mut [u8],
+        out: &mut [u8],
+        log: &mut [u8],
+        at: usize,
+    ) -> usize
+        ensures turn { turn_at (client self.new.session) result out.new log.new ≡
+            step_turn at log.old (client_lent (piece_says (length out.old) (client self.old.session) piece.now store.old) out.old) }
+        ensures store_after { store.new ≡
+            store_after (client self.old.session) (piece_says (length out.old) (client self.old.session) piece.now store.old).answer piece.now store.old }
+    {
+        let step = self.session.piece(piece, store, out);
+        self.keep(&step, step_code(step.answer), 0, out, log, at)
+    }
+
+    fn finish(&mut self, store: &[u8], out: &mut [u8], log: &mut [u8], at: usize) -> usize
+        ensures { turn_at (client self.new.session) result out.new log.new ≡
+            finish_turn at log.old (client_lent (finish_says (length out.old) (client self.old.session) store.now) out.old) }
+    {
+        let step = self.session.finish(store, out);
+        let count = value_count(step.answer);
+        self.keep(&step, step_code(step.answer), count, out, log, at)
+    }
+
+    fn failure(&mut self, failed: Failure, out: &mut [u8], log: &mut [u8], at: usize) -> usize
+        ensures { turn_at (client self.new.session) result out.new log.new ≡
+            step_turn at log.old (client_lent (failure_says (length out.old) (client self.old.session) failed) out.old) }
+    {
+        let step = self.session.failure(failed, out);
+        self.keep(&step, step_code(step.answer), 0, out, log, at)
+    }
 }
 
 impl Driven for Client {
@@ -197,34 +294,30 @@ impl Driven for Client {
         log: &mut [u8],
         at: usize,
     ) -> usize {
-        let step = match kind {
-            1 => self.session.command(arg, out),
+        match kind {
+            1 => self.command(arg, out, log, at),
             2 => {
                 let pid = driver_log::byte_of(arg, 0);
-                self.session.query_pid(pid, count_given(arg), out)
+                self.query_pid(pid, count_given(arg), out, log, at)
             }
-            3 => self.session.query_pids(arg, None, out),
-            4 => self.session.piece(arg, store, out),
-            5 => self.session.finish(store, out),
-            6 => self.session.init(out),
+            3 => self.query_pids(arg, None, out, log, at),
+            4 => self.piece(arg, store, out, log, at),
+            5 => self.finish(store, out, log, at),
+            6 => self.init(out, log, at),
             7 => {
                 let count = Some(driver_log::byte_of(arg, 0));
-                self.session.query_pids(after_first(arg), count, out)
+                self.query_pids(after_first(arg), count, out, log, at)
             }
-            8 => self.session.failure(Failure::Read, out),
-            9 => self.session.failure(Failure::Write, out),
-            10 => return put_reply(self.session, store, log, at),
+            8 => self.failure(Failure::Read, out, log, at),
+            9 => self.failure(Failure::Write, out, log, at),
+            10 => self.put_reply(store, log, at),
             // The host writes to its store between two calls.
             11 => {
                 wire::put(store, 0, arg);
-                return at;
+                at
             }
-            _ => return put_state(self.session, arg, log, at),
-        };
-        self.session = step.session;
-        let code = code_of(kind, step.answer);
-        let count = count_of_kind(kind, step.answer);
-        driver_log::put_call(log, at, code, count, out, step.written)
+            _ => self.put_state(arg, log, at),
+        }
     }
 }
 

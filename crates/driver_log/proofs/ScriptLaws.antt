@@ -72,3 +72,9 @@ pub rounds_turn : {T : Type 0} (once : T → T) (n round : ℕ) (t : T) → roun
 rounds_turn once n round t h =
     let e : n - round ≡ suc (n - (round + 1)) = omega arith in
     sym (ap (λ k. rounds once k t) e)
+
+-- one of those that are left
+pub rounds_left : {T : Type 0} (once : T → T) (left : ℕ) (t : T) → (left ≡ 0 → ⊥) → rounds once (left - 1) (once t) ≡ rounds once left t
+rounds_left once left t h =
+    let e : left - 0 ≡ left = omega arith in
+    rounds_turn once left 0 t (omega (arith, h)) ∙ ap (λ k. rounds once k t) e

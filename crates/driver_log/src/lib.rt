@@ -113,7 +113,8 @@ fn run<D: Driven>(
 }
 
 // A script, and then another one for so many rounds. Each round goes on with the session that the one before it left; the script and each round log from the start of
-// the log. The answer is the length of the last log.
+// the log. The answer is the length of the last log. Run is called at one place, so that it is compiled into its callers, where the session is a variable: behind a loan
+// each call would first copy it.
 pub fn run_rounds<D: Driven>(
     session: &mut D,
     script: &[u8],
@@ -126,9 +127,14 @@ pub fn run_rounds<D: Driven>(
     ensures { D.seen session.new result store.new out.new log.new ≡
         rounds (λ t. calls D.called (D.anew t) again.now) times (calls D.called (D.seen session.old 0 store.old out.old log.old) script.now) }
 {
-    let mut at = run(session, script, store, out, log);
-    for _ in 0..times {
-        at = run(session, again, store, out, log);
+    let mut next = script;
+    let mut left = times;
+    loop {
+        let at = run(session, next, store, out, log);
+        if left == 0 {
+            return at;
+        }
+        next = again;
+        left -= 1;
     }
-    at
 }

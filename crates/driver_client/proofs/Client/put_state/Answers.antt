@@ -1,5 +1,5 @@
 use Rattle.wire.proofs.PutLaws.{put_then}
-use Rattle.driver_client.proofs.put_state.Goals as goal
+use Rattle.driver_client.proofs.Client.put_state.Goals as goal
 
 pub returns : goal.returns
 returns c =
