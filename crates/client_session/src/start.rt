@@ -1,5 +1,5 @@
-// A command is started: the initialisation, a raw command or a query. A query is not started in its caller: one that makes both kinds of query would clear room for the
-// sessions of both at each of its calls.
+// A command is started: the initialisation, a raw command or a query. `start_query` is not inlined: a caller of both kinds of query would clear room for the sessions of
+// both at each of its calls.
 ghost use Rattle.std.specs.Prelude.{◌≡◌, Bool, false, true, [], ◌∷◌, ℕ, ◌≤◌, length};
 ghost use Rattle.wire.specs.Steps.{settled};
 ghost use Rattle.wire.specs.Text.{ascii};

@@ -77,7 +77,7 @@ pub record Stored : Type 0 where
   pub turn : Turn Client
   pub store : List ℕ
 
--- a call as the host sees it is noted
+-- a call as the host sees it is noted: a start, a piece or a failure, and a finish, which alone gives values
 abbrev pub start_turn : ℕ → List ℕ → ClientServed → Turn Client
 start_turn at log r = answered at log (start_code r.answer) 0 r.written r.next r.out
 

@@ -146,7 +146,8 @@ fn put_pids(server: ServerState, pids: &[u8], log: &mut [u8], at: usize) -> usiz
     at
 }
 
-// The two entries that show a session are not inlined: the session then stays whole in memory, and a call that does nothing with a part of it copies it at once.
+// The two entries that show a session are not inlined. Where a session's fields are read beside the calls, the compiler holds it in parts, and each call would have to put
+// it together.
 impl Client {
     // The entry of a session's state: framing, repeat, multi-PID support, what is under way, the last query, and what is known of the PIDs in the argument.
     #[inline(never)]

@@ -1,6 +1,6 @@
 -- `driver_server::put_state` meets its contract.
 use Rattle.wire.proofs.PutLaws.{put_then}
-use Rattle.driver_server.proofs.put_state.Goals as goal
+use Rattle.driver_server.proofs.Server.put_state.Goals as goal
 
 pub returns : goal.returns
 returns c =
