@@ -1,7 +1,7 @@
 // Runs scripts of calls on a client session, and logs what each call answered.
 #![tactic(auto)]
 
-ghost use Rattle.std.specs.Prelude.{◌≡◌, List, [], ◌∷◌, ℕ, true, false, refl, length, take, drop};
+ghost use Rattle.std.specs.Prelude.{◌≡◌, [], ◌∷◌, true, false, refl, length, take, drop};
 ghost use Rattle.wire.specs.Put.{Put};
 ghost use Rattle.wire.specs.Answer.{number, number_of};
 ghost use Rattle.query.specs.Query.{count_of};
@@ -146,8 +146,8 @@ fn put_pids(server: ServerState, pids: &[u8], log: &mut [u8], at: usize) -> usiz
     at
 }
 
-// The two entries that show a session are not inlined. Where a session's fields are read beside the calls, the compiler holds it in parts, and each call would have to put
-// it together.
+// The two entries that show a session are not inlined. In a function that reads single fields of the session, the compiler keeps it as many variables, and each call would
+// copy them into one place.
 impl Client {
     // The entry of a session's state: framing, repeat, multi-PID support, what is under way, the last query, and what is known of the PIDs in the argument.
     #[inline(never)]
@@ -176,9 +176,9 @@ impl Client {
     }
 }
 
-// The calls that answer with a step, each with its entry in the log. Each has a step of its own, since one for all of them would be cleared and copied at each call.
+// The calls that answer with a step. Each of their methods has a step of its own, since one for all of them would be cleared and copied at each call.
 impl Client {
-    // The session goes on as the step has it, and the call is logged.
+    // What all of them end with: the session goes on as the step has it, and the call is logged.
     fn keep(
         &mut self,
         step: &ClientStep,

@@ -113,8 +113,8 @@ fn run<D: Driven>(
 }
 
 // A script, and then another one for so many rounds. Each round goes on with the session that the one before it left; the script and each round log from the start of
-// the log. The answer is the length of the last log. `run` is called at one place, so that it is compiled into its callers, where the session is a variable: behind a
-// loan each call would first copy it.
+// the log. The answer is the length of the last log. `run` is called at one place, so that the compiler puts it into this function, and this one into that of each driver.
+// There the session is a variable. By reference, each call would copy it first.
 pub fn run_rounds<D: Driven>(
     session: &mut D,
     script: &[u8],

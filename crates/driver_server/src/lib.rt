@@ -47,7 +47,7 @@ fn phase_code(phase: Phase) -> u8
 
 impl Server {
     // The entry of a session's state: the four settings, the phase, the last command, and the line as far as it is read or the command handed out. It is not inlined:
-    // where a session's fields are read beside the calls, the compiler holds it in parts, and each call would have to put it together.
+    // in a function that reads single fields of the session, the compiler keeps it as many variables, and each call would copy them into one place.
     #[inline(never)]
     fn put_state(&self, log: &mut [u8], at: usize) -> usize
         ensures { Put log.old at (server_entry (session self.now.session)) result log.new }
@@ -66,9 +66,9 @@ impl Server {
     }
 }
 
-// The calls that answer with a step, each with its entry in the log. Each has a step of its own, since one for all of them would be cleared and copied at each call.
+// The calls that answer with a step. Each of their methods has a step of its own, since one for all of them would be cleared and copied at each call.
 impl Server {
-    // The session goes on as the step has it, and the call is logged.
+    // What all of them end with: the session goes on as the step has it, and the call is logged.
     fn keep(
         &mut self,
         step: &ServerStep,
